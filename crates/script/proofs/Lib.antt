@@ -1,0 +1,11 @@
+pub mod Lexing
+pub mod Agreement
+pub mod Keeping
+pub mod Counting
+pub mod Parts
+pub mod Taking
+pub mod Exprs
+pub mod Declarations
+pub mod Performing
+pub mod Stmts
+pub mod Spelling

@@ -1,0 +1,8 @@
+// Sheets of script: bytes are fed into record tables that the caller lends, closed, and written back.
+mod record;
+mod fault;
+mod rule;
+mod making;
+
+pub use fault::{ReadFault, ReadFromSheet, SheetFault, SheetFromPool};
+pub use record::{DeclLinked, DeclRecord, Draft, ExprLinked, ExprRecord, Pools, Stack, Stage, StmtLinked, StmtRecord, Whole};
