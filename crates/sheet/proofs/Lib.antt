@@ -1,3 +1,17 @@
 pub mod Moves
 pub mod Writes
 pub mod Sizes
+pub mod Turns
+pub mod TurnedOwned
+pub mod Decoding
+pub mod Surveys
+pub mod DecodingStmts
+pub mod Shaping
+pub mod Taken
+pub mod ItemSurveys
+pub mod Fitting
+pub mod Made
+pub mod ForMatching
+pub mod Matching
+pub mod Spares
+pub mod Looking

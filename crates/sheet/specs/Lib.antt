@@ -5,4 +5,7 @@ pub mod Embedding
 pub mod Shape
 pub mod Turning
 pub mod Making
+pub mod Steps
+pub mod Surveying
+pub mod Building
 pub mod Holds

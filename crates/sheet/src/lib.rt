@@ -3,6 +3,9 @@ mod record;
 mod fault;
 mod rule;
 mod making;
+mod turn;
+mod reader;
+mod build;
 
 pub use fault::{ReadFault, ReadFromSheet, SheetFault, SheetFromPool};
 pub use record::{DeclLinked, DeclRecord, Draft, ExprLinked, ExprRecord, Pools, Stack, Stage, StmtLinked, StmtRecord, Whole};
