@@ -1,6 +1,10 @@
 pub mod Moves
 pub mod Writes
 pub mod Sizes
+pub mod TreeBytes
+pub mod Counting
+pub mod Writing
+pub mod Lengths
 pub mod Turns
 pub mod TurnedOwned
 pub mod Decoding
@@ -15,3 +19,5 @@ pub mod ForMatching
 pub mod Matching
 pub mod Spares
 pub mod Looking
+pub mod Performed
+pub mod PerformedStmts

@@ -6,6 +6,7 @@ mod making;
 mod turn;
 mod reader;
 mod build;
+mod bytes;
 
 pub use fault::{ReadFault, ReadFromSheet, SheetFault, SheetFromPool};
 pub use record::{DeclLinked, DeclRecord, Draft, ExprLinked, ExprRecord, Pools, Stack, Stage, StmtLinked, StmtRecord, Whole};
