@@ -21,3 +21,7 @@ pub mod Spares
 pub mod Looking
 pub mod Performed
 pub mod PerformedStmts
+pub mod Rooms
+pub mod Stepping
+pub mod Folding
+pub mod Tallies

@@ -104,6 +104,7 @@ module _ (es : List ExprRecord) (ss : List StmtRecord) (ds : List DeclRecord) (d
           (λ sound. subst (λ x. Holds (record { exprs = es′; stmts = ss; decls = ds }) x m₁) (sym (put .2)) (subst (λ x. Holds (record { exprs = x; stmts = ss; decls = ds }) (draft-with-expr n d es) m₁) (sym (put .3)) (record {
             sound = sound;
             stage = refl;
+            alone = tt;
             owned = o₄;
             exprs = omega arith;
             stmts = omega arith;
@@ -159,6 +160,7 @@ module _ (es : List ExprRecord) (ss : List StmtRecord) (ds : List DeclRecord) (d
           (subst (λ y. Holds (record { exprs = t .table; stmts = ss; decls = y }) (draft-with-declarator n d es ds) m₁) (sym (put .4)) (record {
             sound = sound;
             stage = refl;
+            alone = tt;
             owned = o₄;
             exprs = omega arith;
             stmts = omega arith;

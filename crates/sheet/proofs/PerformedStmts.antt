@@ -13,7 +13,7 @@ use Rattle.script.specs.declared.Table.the-variants.{Expressions, Statements, D
 use Rattle.script.specs.declared.StatementKind.{StatementKind}
 use Rattle.script.specs.Format.{no-spare, too-few, leftover}
 use Rattle.script.specs.Tree.{Stmt, empty, expression, declaration, return-of, throw, if-then, block, while, do-while, for, switch, break, continue, Stmts}
-use Rattle.script.specs.Stacks.{Item, statement, case, Declarator, declarator, Stacks, Performed, lacks, misplaces, puts-expr, puts-item, puts-declarator, puts-body}
+use Rattle.script.specs.Stacks.{Item, statement, case, Declarator, declarator, Stacks, no-items, Performed, lacks, misplaces, puts-expr, puts-item, puts-declarator, puts-body}
 use Rattle.script.specs.Judge.{Model, Spares, complete, Verdict, turned-away, taken, settled, between, push-item, alone}
 use Rattle.sheet.specs.declared.fault.ReadFault.{ReadFault}
 use Rattle.sheet.specs.declared.fault.ReadFault.the-variants.{Sheet, TooFew}
@@ -84,6 +84,13 @@ alone-not (x ∷ xs) [] [] v h = refl
 alone-not (x ∷ xs) [] (z ∷ zs) v h = refl
 alone-not (x ∷ xs) (y ∷ ys) [] v h = refl
 alone-not (x ∷ xs) (y ∷ ys) (z ∷ zs) v h = refl
+
+empty-list : {A : Type 0} (xs : List A) → length xs ≡ 0 → xs ≡ []
+empty-list [] e = refl
+empty-list (x ∷ xs) e = absurd (omega arith)
+
+no-items-left : (s : Stacks) → length (s .exprs) ≡ 0 → length (s .stmts) ≡ 0 → length (s .decls) ≡ 0 → s ≡ no-items
+no-items-left s a b c = λ i. record { exprs = empty-list (s .exprs) a i; stmts = empty-list (s .stmts) b i; decls = empty-list (s .decls) c i }
 
 clash : {b : Bool} → true ≡ b → b ≡ false → ⊥
 clash p q = let z : _≡_ {A = ℕ} 0 1 = cc in omega arith
@@ -159,6 +166,7 @@ module _ (es : List ExprRecord) (ss : List StmtRecord) (ds : List DeclRecord) (d
         (subst (λ (h : Heap). Holds h (draft-with-stmt n head d₁ es ds) m₁) (λ i. record { exprs = sym (put .4) i; stmts = sym (put .5) i; decls = sym (put .6) i }) (record {
           sound = sound;
           stage = refl;
+          alone = tt;
           owned = o₆;
           exprs = omega arith;
           stmts = omega arith;
@@ -215,6 +223,7 @@ module _ (es : List ExprRecord) (ss : List StmtRecord) (ds : List DeclRecord) (d
         (subst (λ y. Holds (record { exprs = es; stmts = y; decls = ds }) (draft-with-body n d ss) m₁) (sym (put .4)) (record {
           sound = sound;
           stage = tt;
+          alone = no-items-left s′ (omega arith) (omega arith) (omega arith);
           owned = o₂;
           exprs = omega arith;
           stmts = omega arith;

@@ -21,11 +21,11 @@ abbrev pub total : ℕ → (ℕ → ℕ) → ℕ
 total zero g = 0
 total (suc n) g = total n g + g n
 
-total-add : (n : ℕ) (f g : ℕ → ℕ) → total n (λ i. f i + g i) ≡ total n f + total n g
+pub total-add : (n : ℕ) (f g : ℕ → ℕ) → total n (λ i. f i + g i) ≡ total n f + total n g
 total-add zero f g = refl
 total-add (suc n) f g = let e = total-add n f g in omega arith
 
-total-none : (n : ℕ) → total n (λ i. 0) ≡ 0
+pub total-none : (n : ℕ) → total n (λ i. 0) ≡ 0
 total-none zero = refl
 total-none (suc n) = let e = total-none n in omega arith
 
@@ -33,7 +33,7 @@ total-outside : (n i : ℕ) → n ≤ i → total n (λ j. same-place j i) ≡ 0
 total-outside zero i h = refl
 total-outside (suc n) i h = let e = total-outside n i (omega arith) in let z = same-place-other n i (omega arith) in omega arith
 
-total-same : (n i : ℕ) → i < n → total n (λ j. same-place j i) ≡ 1
+pub total-same : (n i : ℕ) → i < n → total n (λ j. same-place j i) ≡ 1
 total-same zero i h = absurd (omega arith)
 total-same (suc n) i h =
     ⊎-elim

@@ -31,6 +31,11 @@ body-root (Reading a) (complete ss) = []
 body-root (Complete at) (reading b) = []
 body-root (Complete at) (complete ss) = (stmt-at at, stmts-row ss) ∷ []
 
+-- a complete body has left nothing on the stacks
+abbrev pub Stands-alone : ModelStage → Stacks → Type 0
+Stands-alone (reading a) s = Unit {0}
+Stands-alone (complete ss) s = s ≡ no-items
+
 abbrev pub roots : Draft → Model → List Root
 roots d m =
     (expr-at (d .exprs .top), expr-stack (m .stacks .exprs))
@@ -44,6 +49,7 @@ counted p = record { exprs = p .exprs .count; stmts = p .stmts .count; decls = p
 pub record Holds (h : Heap) (d : Draft) (m : Model) : Type 0 where
   pub sound : Sound-model m
   pub stage : Same-stage (d .stage) (m .stage)
+  pub alone : Stands-alone (m .stage) (m .stacks)
   pub owned : Owns h (d .pools) [] (roots d m)
   pub exprs : d .exprs .count ≡ length (m .stacks .exprs)
   pub stmts : d .stmts .count ≡ length (m .stacks .stmts)
@@ -53,3 +59,7 @@ pub record Holds (h : Heap) (d : Draft) (m : Model) : Type 0 where
 pub record Holds-whole (h : Heap) (w : Whole) (body : Stmts) : Type 0 where
   pub sound : Sound-stmts body
   pub owned : Owns h (w .pools) [] ((stmt-at (w .body), stmts-row body) ∷ [])
+
+-- the draft still reads commands
+abbrev pub Reads : Model → Type 0
+Reads m = (a : Awaiting) × (m .stage ≡ reading a)

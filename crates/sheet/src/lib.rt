@@ -7,6 +7,7 @@ mod turn;
 mod reader;
 mod build;
 mod bytes;
+mod feed;
 
 pub use fault::{ReadFault, ReadFromSheet, SheetFault, SheetFromPool};
 pub use record::{DeclLinked, DeclRecord, Draft, ExprLinked, ExprRecord, Pools, Stack, Stage, StmtLinked, StmtRecord, Whole};
