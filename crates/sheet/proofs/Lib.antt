@@ -25,3 +25,12 @@ pub mod Rooms
 pub mod Stepping
 pub mod Folding
 pub mod Tallies
+pub mod Marking
+pub mod Counts
+pub mod ExprsMarked
+pub mod SparesMarked
+pub mod DeclsMarked
+pub mod PartsMarked
+pub mod StmtsMarked
+pub mod RootsMarked
+pub mod SheetsHeld

@@ -89,7 +89,7 @@ empty-list : {A : Type 0} (xs : List A) → length xs ≡ 0 → xs ≡ []
 empty-list [] e = refl
 empty-list (x ∷ xs) e = absurd (omega arith)
 
-no-items-left : (s : Stacks) → length (s .exprs) ≡ 0 → length (s .stmts) ≡ 0 → length (s .decls) ≡ 0 → s ≡ no-items
+pub no-items-left : (s : Stacks) → length (s .exprs) ≡ 0 → length (s .stmts) ≡ 0 → length (s .decls) ≡ 0 → s ≡ no-items
 no-items-left s a b c = λ i. record { exprs = empty-list (s .exprs) a i; stmts = empty-list (s .stmts) b i; decls = empty-list (s .decls) c i }
 
 clash : {b : Bool} → true ≡ b → b ≡ false → ⊥

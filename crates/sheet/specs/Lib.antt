@@ -12,3 +12,4 @@ pub mod Surveying
 pub mod Building
 pub mod Holds
 pub mod Judged
+pub mod Marked

@@ -8,6 +8,7 @@ mod reader;
 mod build;
 mod bytes;
 mod feed;
+mod check;
 
 pub use fault::{ReadFault, ReadFromSheet, SheetFault, SheetFromPool};
 pub use record::{DeclLinked, DeclRecord, Draft, ExprLinked, ExprRecord, Pools, Stack, Stage, StmtLinked, StmtRecord, Whole};
