@@ -12,7 +12,7 @@ use Rattle.std.specs.declared.result.Result.the-variants.{Ok, Err}
 use Rattle.script.specs.Format.{Refusal}
 use Rattle.script.specs.Judge.{Model, Verdict, turned-away, taken, judge, Fed, all-taken, stopped, one-more, then-fed, judge-all}
 use Rattle.sheet.specs.declared.fault.ReadFault.{ReadFault}
-use Rattle.sheet.specs.declared.feed.Taken.{Taken}
+use Rattle.sheet.specs.declared.feeding.Taken.{Taken}
 use Rattle.sheet.specs.declared.record.Draft.{Draft}
 use Rattle.sheet.specs.Heap.{Heap}
 use Rattle.sheet.specs.Steps.{fault-of}

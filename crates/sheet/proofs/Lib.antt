@@ -34,3 +34,4 @@ pub mod PartsMarked
 pub mod StmtsMarked
 pub mod RootsMarked
 pub mod SheetsHeld
+pub mod Promises

@@ -8,7 +8,7 @@ use Rattle.script.specs.Format.{Refusal}
 use Rattle.script.specs.Judge.{Model, Verdict, turned-away, taken, Fed, all-taken, stopped}
 use Rattle.script.specs.Sound.{Sound-model}
 use Rattle.sheet.specs.declared.fault.ReadFault.{ReadFault}
-use Rattle.sheet.specs.declared.feed.Taken.{Taken}
+use Rattle.sheet.specs.declared.feeding.Taken.{Taken}
 use Rattle.sheet.specs.declared.record.Draft.{Draft}
 use Rattle.sheet.specs.Heap.{Heap}
 use Rattle.sheet.specs.Holds.{Holds}

@@ -13,3 +13,4 @@ pub mod Building
 pub mod Holds
 pub mod Judged
 pub mod Marked
+pub mod Calls

@@ -341,7 +341,7 @@ fn all_marked(marks: &[u8], n: usize) -> bool
     true
 }
 
-fn clear(marks: &mut [u8])
+pub fn clear(marks: &mut [u8])
     ensures { λ _. ⌜ now (marks .exit) ≡ replicate (length (now (marks .entry))) 0 ⌝ }
 {
     for m in marks.iter_mut() {

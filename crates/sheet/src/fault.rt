@@ -1,5 +1,6 @@
 // Why a call is turned away: the reader's fault carries the sheet's, and that one the pool's.
 ghost use mathlib.Core.Path.{_≡_};
+ghost use Rattle.sheet.specs.Calls.{sheet-number, read-number};
 ghost use Rattle.sheet.specs.declared.fault.ReadFault.the-variants.{Sheet};
 ghost use Rattle.sheet.specs.declared.fault.SheetFault.the-variants.{Spares};
 use pool::PoolFault;
@@ -49,5 +50,37 @@ pub impl From<SheetFault> for ReadFault as ReadFromSheet {
 
     fn from(f: SheetFault) -> ReadFault {
         ReadFault::Sheet(f)
+    }
+}
+
+impl SheetFault {
+    // The refusal's number.
+    pub fn number(self) -> u8
+        ensures { λ r. ⌜ r ≡ sheet-number self ⌝ }
+    {
+        match self {
+            SheetFault::Sizes => 1,
+            SheetFault::NotHeld => 2,
+            SheetFault::Spares(_) => 9,
+            SheetFault::NoBody => 10,
+            SheetFault::ShortOutput => 11,
+        }
+    }
+}
+
+impl ReadFault {
+    // The refusal's number.
+    pub fn number(self) -> u8
+        ensures { λ r. ⌜ r ≡ read-number self ⌝ }
+    {
+        match self {
+            ReadFault::Sheet(fault) => fault.number(),
+            ReadFault::BodyComplete => 3,
+            ReadFault::NoCommand => 4,
+            ReadFault::BadOperand => 5,
+            ReadFault::TooFew => 6,
+            ReadFault::Misplaced => 7,
+            ReadFault::Leftover => 8,
+        }
     }
 }

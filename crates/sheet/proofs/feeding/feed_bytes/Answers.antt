@@ -3,7 +3,7 @@ use native.Mathlib.Omega.{arith}
 use lib.ListN.{length, getD}
 use Rattle.sheet.specs.Readable.{tables}
 use Rattle.sheet.proofs.Folding.{midway-start, midway-next, midway-refused, midway-end}
-use Rattle.sheet.proofs.feed.feed_bytes.Needs as need
+use Rattle.sheet.proofs.feeding.feed_bytes.Needs as need
 
 pub loop-i-holds : need.loop-i-holds
 loop-i-holds c m holds = midway-start (c .args .bytes .now) m _ (c .args .draft .now) holds

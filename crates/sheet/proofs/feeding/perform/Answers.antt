@@ -9,7 +9,7 @@ use Rattle.sheet.proofs.Matching.{made-matches}
 use Rattle.sheet.proofs.Performed.{expr-judged, declarator-judged}
 use Rattle.sheet.proofs.PerformedStmts.{stmt-judged, body-judged}
 use Rattle.sheet.proofs.Rooms.{exprs-room, stmts-room, decls-room, no-body-yet}
-use Rattle.sheet.proofs.feed.perform.Needs as need
+use Rattle.sheet.proofs.feeding.perform.Needs as need
 
 pub put-expr-requires : need.put-expr-requires
 put-expr-requires c κs = exprs-room _ (c .args .draft .now) (c .pre .held .0) (c .pre .limited) (c .pre .held .1)

@@ -3,7 +3,7 @@ use native.Mathlib.Omega.{arith}
 use Rattle.std.specs.declared.result.Result.the-variants.{Ok, Err}
 use Rattle.std.proofs.shelf.Results.{err-from-errBy}
 use Rattle.sheet.proofs.Stepping.{step-complete, step-refused, step-awaits, step-performs}
-use Rattle.sheet.proofs.feed.feed_byte.Needs as need
+use Rattle.sheet.proofs.feeding.feed_byte.Needs as need
 
 pub returns-in-Perform : need.returns-in-Perform
 returns-in-Perform c m holds =

@@ -8,12 +8,16 @@ ghost use Rattle.sheet.specs.Bytes.{Limited};
 ghost use Rattle.sheet.specs.Readable.{tables};
 ghost use Rattle.sheet.specs.Holds.{Holds, Reads};
 ghost use Rattle.sheet.specs.Judged.{Judged, Stepped, Fed-as};
+ghost use Rattle.sheet.specs.Calls.{sizes-of, Feeds, Reads-taken};
 use crate::build::Parts;
 use crate::build::put_body;
 use crate::build::put_declarator;
 use crate::build::put_expr;
 use crate::build::put_stmt;
+use crate::check::draft_held;
 use crate::fault::ReadFault;
+use crate::fault::ReadFromSheet;
+use crate::fault::SheetFault;
 use crate::making::Making;
 use crate::making::made_by;
 use crate::reader::Step;
@@ -23,6 +27,7 @@ use crate::record::Draft;
 use crate::record::ExprRecord;
 use crate::record::Stage;
 use crate::record::StmtRecord;
+use crate::limits::sizes_fit;
 use script::Awaiting;
 use script::Command;
 
@@ -78,4 +83,27 @@ fn feed_bytes(draft: &mut Draft, exprs: &mut [ExprRecord], stmts: &mut [StmtReco
         }
     }
     Taken { count: bytes.len(), answer: Ok(()) }
+}
+
+// The draft handed on, how many bytes were taken, and why no more.
+pub struct Fed {
+    pub draft: Draft,
+    pub taken: usize,
+    pub answer: Result<(), ReadFault>,
+}
+
+// Feeds bytes to a draft, up to the first that is refused.
+pub fn feed(draft: Draft, exprs: &mut [ExprRecord], stmts: &mut [StmtRecord], decls: &mut [DeclRecord], marks: &mut [u8], bytes: &[u8]) -> Fed
+    ensures fed { λ r. ⌜ Feeds (sizes-of (tables (now (exprs .entry)) (now (stmts .entry)) (now (decls .entry))) (now (marks .entry))) (tables (now (exprs .entry)) (now (stmts .entry)) (now (decls .entry))) draft (now (marks .entry)) (now (bytes .entry)) r (tables (now (exprs .exit)) (now (stmts .exit)) (now (decls .exit))) (now (marks .exit)) ⌝ }
+    ensures spelled { λ _. ⌜ Reads-taken (tables (now (exprs .entry)) (now (stmts .entry)) (now (decls .entry))) draft (now (bytes .entry)) ⌝ }
+{
+    if !sizes_fit(exprs.len(), stmts.len(), decls.len(), marks.len()) {
+        return Fed { draft, taken: 0, answer: Err(ReadFault::from(SheetFault::Sizes)) };
+    }
+    if !draft_held(&draft, exprs, stmts, decls, marks) {
+        return Fed { draft, taken: 0, answer: Err(ReadFault::from(SheetFault::NotHeld)) };
+    }
+    let mut draft = draft;
+    let Taken { count, answer } = feed_bytes(&mut draft, exprs, stmts, decls, bytes);
+    Fed { draft, taken: count, answer }
 }
