@@ -9,7 +9,7 @@ use Rattle.sheet.specs.declared.rule.DeclSurvey.{DeclSurvey}
 use Rattle.script.specs.declared.StatementKind.{StatementKind}
 use Rattle.sheet.specs.Heap.{expr-label, stmt-label, decl-label}
 use Rattle.sheet.specs.Rows.{Row, end, node, row-length}
-use Rattle.sheet.specs.Shape.{number, is-case, lexical-option, kind-declared, surveyed, no-survey, survey, decl-survey}
+use Rattle.sheet.specs.Shape.{one-if, is-case, lexical-option, kind-declared, surveyed, no-survey, survey, decl-survey}
 use Rattle.sheet.specs.Marked.{length-from, with-declarator, declarators-from, survey-from, no-declarators}
 
 pub length-from-is : (n : ℕ) (x : Row) → length-from n x ≡ n + row-length x
@@ -49,7 +49,7 @@ survey-from-is s (node (decl-label n) x y z w) = survey-from-is s w
 pub survey-is : (x : Row) → survey-from no-survey x ≡ survey x
 survey-is x = survey-from-is no-survey x ∙ same-stmts (omega arith) (omega arith) (omega arith) (omega arith)
 
-number-few : (b : Bool) → number b ≤ 1
+number-few : (b : Bool) → one-if b ≤ 1
 number-few true = omega arith
 number-few false = omega arith
 

@@ -25,7 +25,7 @@ use Rattle.sheet.specs.Heap.{expr-label, stmt-label, decl-label}
 use Rattle.sheet.specs.Rows.{Row, end, node, row-length}
 use Rattle.sheet.specs.Embedding.{expr-row, optional-row, init-kind, is-present, init-exprs, init-stmts, stmt-row, alternate-row}
 use Rattle.sheet.specs.Embedding.{stmts-row, cases-row, item-row, expr-stack, stmt-stack, decl-stack}
-use Rattle.sheet.specs.Shape.{number, survey, decl-survey, first-declared, values-fit, plain-stmt, branches, init-expressions, head-expressions}
+use Rattle.sheet.specs.Shape.{one-if, survey, decl-survey, first-declared, values-fit, plain-stmt, branches, init-expressions, head-expressions}
 use Rattle.sheet.specs.Shape.{for-fits, fits-stmt, Shaped-stmts}
 use Rattle.sheet.proofs.Decoding.{Exprs-of, Declarators-of, decl-stack-length, decoded-length, exprs-decoded, declarators-decoded}
 use Rattle.sheet.proofs.Decoding.{declarators-row-of, declarators-of-count, declarators-of-sound}
@@ -67,7 +67,7 @@ record Taken (t : Bool) (es : List Expr) (n : ℕ) : Type 0 where
   taken-sound : Sound-optional taken
   rest-sound : Every Sound-expr rest
 
-take-expr : (t : Bool) (es : List Expr) (n : ℕ) → Every Sound-expr es → length es ≡ number t + n → Taken t es n
+take-expr : (t : Bool) (es : List Expr) (n : ℕ) → Every Sound-expr es → length es ≡ one-if t + n → Taken t es n
 take-expr false es n h e = record { taken = absent; rest = es; flag = refl; row = refl; size = omega arith; taken-sound = tt; rest-sound = h }
 take-expr true [] n h e = absurd (omega arith)
 take-expr true (a ∷ es) n h e = record { taken = present a; rest = es; flag = refl; row = refl; size = omega arith; taken-sound = h .0; rest-sound = h .1 }
@@ -81,9 +81,9 @@ record Two-optionals (t u : Bool) (es : List Expr) : Type 0 where
   test-sound : Sound-optional test
   update-sound : Sound-optional update
 
-two-optionals : (t u : Bool) (es : List Expr) → Every Sound-expr es → length es ≡ number t + number u → Two-optionals t u es
+two-optionals : (t u : Bool) (es : List Expr) → Every Sound-expr es → length es ≡ one-if t + one-if u → Two-optionals t u es
 two-optionals t u es h n =
-    let p = take-expr t es (number u) h n in
+    let p = take-expr t es (one-if u) h n in
     let q = take-expr u (p .rest) 0 (p .rest-sound) (omega (arith, p .size)) in
     let r : optional-row (q .taken) end ≡ expr-stack (p .rest) = ap (optional-row (q .taken)) (no-exprs-there (q .rest) (q .size)) ∙ q .row in
     record {
@@ -184,7 +184,7 @@ some-case-of no-cases n = absurd (omega arith)
 some-case-of (case-then t ss cs) n = refl
 
 default-more : (t : OptionalExpr) (ss : Stmts) (cs : Cases) (n : ℕ) → defaults cs ≡ n →
-    defaults (case-then t ss cs) ≡ n + number (eqb (row-length (optional-row t end)) 0)
+    defaults (case-then t ss cs) ≡ n + one-if (eqb (row-length (optional-row t end)) 0)
 default-more absent ss cs n e = omega arith
 default-more (present a) ss cs n e = rw (optional-bare (present a)) (omega arith)
 
@@ -418,7 +418,7 @@ switch-of es is ds h g f =
       (e .2, join _ _ (some-case-of (s .cases) (omega (arith, s .size, item-stack-length is))) (le-leb _ _ (omega (arith, s .unlabelled))), s .cases-sound),
     )
 
-for-from : (i : ForInit) (t u : Bool) (es : List Expr) (is : List Item) (ds : List Declarator) → Begun i es is (number t + number u) → end ≡ decl-stack ds →
+for-from : (i : ForInit) (t u : Bool) (es : List Expr) (is : List Item) (ds : List Declarator) → Begun i es is (one-if t + one-if u) → end ≡ decl-stack ds →
     Item-of (kind.For (record { init = i; test = t; update = u })) es is ds
 for-from i t u es is ds p z =
     let v = two-optionals t u (p .exprs) (p .exprs-sound) (p .size) in
@@ -438,7 +438,7 @@ for-of i t u es is ds h g f =
     let b = both (eqb (survey (stmt-stack is) .cases) 0) _ (a .1) in
     let c = both (eqb (decl-survey (decl-stack ds) .count) 0) _ (b .1) in
     for-from i t u es is ds
-    (begun i es is (number t + number u) h g (eqb-true _ _ (a .0)) (eqb-true _ _ (b .0)) (c .1))
+    (begun i es is (one-if t + one-if u) h g (eqb-true _ _ (a .0)) (eqb-true _ _ (b .0)) (c .1))
     (no-declarators-there ds (eqb-true _ _ (c .0)))
 
 item-of : (k : StatementKind) (es : List Expr) (is : List Item) (ds : List Declarator) → Every Sound-expr es → Every Sound-item is → Every Sound-declarator ds →

@@ -23,7 +23,7 @@ use Rattle.sheet.specs.declared.rule.DeclSurvey.{DeclSurvey}
 use Rattle.sheet.specs.Rows.{Row, end}
 use Rattle.sheet.specs.Embedding.{item-row, stmt-stack, decl-stack}
 use Rattle.sheet.specs.Shape.{fits-stmt, for-fits, survey, decl-survey, first-declared, no-survey, head-expressions, values-fit, surveyed}
-use Rattle.sheet.specs.Shape.{number as flag-number}
+use Rattle.sheet.specs.Shape.{one-if as flag-number}
 use Rattle.sheet.proofs.ItemSurveys.{case-item, default-item, lexical-item, counted, plain, item-survey, As-cases, declarators-count, values-sound}
 
 abbrev no-declarators : DeclSurvey

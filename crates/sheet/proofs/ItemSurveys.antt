@@ -21,7 +21,7 @@ use Rattle.sheet.specs.declared.rule.StmtSurvey.{StmtSurvey}
 use Rattle.sheet.specs.Rows.{Row, end, row-length}
 use Rattle.sheet.specs.Embedding.{expr-row, stmt-row, stmts-row, cases-row, item-row, declarator-row, declarators-row, stmt-stack, decl-stack}
 use Rattle.sheet.specs.Shape.{survey, decl-survey, first-declared, values-fit}
-use Rattle.sheet.specs.Shape.{number as flag-number}
+use Rattle.sheet.specs.Shape.{one-if as flag-number}
 
 -- what an item adds to the survey of a row
 abbrev pub case-item : Item → Bool

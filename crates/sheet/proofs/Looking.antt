@@ -19,7 +19,7 @@ use Rattle.sheet.specs.declared.record.DeclRecord.{DeclRecord}
 use Rattle.sheet.specs.Heap.{Heap, Place, expr-at, stmt-at, decl-at, Label, stmt-label, decl-label, cell, blank-stmt, blank-decl, expr-cell, blank-expr}
 use Rattle.sheet.specs.Rows.{Row, end, node, At, row-length}
 use Rattle.sheet.specs.Owned.{Short}
-use Rattle.sheet.specs.Shape.{survey, surveyed, first-declared, decl-survey, kind-declared, is-case, number, lexical-option}
+use Rattle.sheet.specs.Shape.{survey, surveyed, first-declared, decl-survey, kind-declared, is-case, one-if, lexical-option}
 use Rattle.sheet.specs.Turning.{front}
 use Rattle.sheet.specs.Surveying.{Surveys, Surveyed-as, Decl-surveys}
 
@@ -53,7 +53,7 @@ module _ (es : List ExprRecord) (ss : List StmtRecord) (ds : List DeclRecord) (a
       let k = r .kind in
       let q = empty-told tables tests (r .exprs) x (h .short) (h .held .2) e in
       let v : surveyed k tests (seen .survey) ≡ survey (node (stmt-label k) x y z acc) =
-            ap (λ (b : Bool). record { count = seen .survey .count + 1; cases = seen .survey .cases + number (is-case k); defaults = seen .survey .defaults + number (is-case k && b); lexicals = seen .survey .lexicals + number (lexical-option (kind-declared k)) }) q
+            ap (λ (b : Bool). record { count = seen .survey .count + 1; cases = seen .survey .cases + one-if (is-case k); defaults = seen .survey .defaults + one-if (is-case k && b); lexicals = seen .survey .lexicals + one-if (lexical-option (kind-declared k)) }) q
             ∙ ap (surveyed k (row-length x)) (h .seen-as .survey) in
       (w, node l x y z acc, record {
         short = h .short;
@@ -84,12 +84,12 @@ module _ (es : List ExprRecord) (ss : List StmtRecord) (ds : List DeclRecord) (a
     where
       counted : (x : Row) → At tables (expr-at (getD ds at blank-decl .value)) x →
           ((getD ds at blank-decl .value ≡ nowhere) × (bare ≡ seen .bare + 1)) ⊎ ((getD ds at blank-decl .value ≢ nowhere) × (bare ≡ seen .bare)) →
-          bare ≡ decl-survey acc .bare + number (eqb (row-length x) 0)
+          bare ≡ decl-survey acc .bare + one-if (eqb (row-length x) 0)
       counted end a (inl v) = let g = ap (λ (d : DeclSurvey). d .bare) (h .seen-as) in let u = v .1 in omega arith
       counted end a (inr v) = absurd (v .0 a)
       counted (node l′ x′ y′ z′ w′) a (inl v) = let q = a .0 in let k = h .short .exprs in let u = v .0 in absurd (omega arith)
       counted (node l′ x′ y′ z′ w′) a (inr v) =
           let g = ap (λ (d : DeclSurvey). d .bare) (h .seen-as) in
           let u = v .1 in
-          let f = ap number (ne-eqb (suc (row-length w′)) 0 (omega arith)) in
+          let f = ap one-if (ne-eqb (suc (row-length w′)) 0 (omega arith)) in
           omega arith

@@ -23,7 +23,7 @@ use Rattle.sheet.specs.Heap.{expr-label, stmt-label}
 use Rattle.sheet.specs.Rows.{Row, end, node}
 use Rattle.sheet.specs.Embedding.{expr-row, exprs-row, item-row, expr-stack}
 use Rattle.sheet.specs.Shape.{fits-stmt, survey, decl-survey}
-use Rattle.sheet.specs.Shape.{number as flag-number}
+use Rattle.sheet.specs.Shape.{one-if as flag-number}
 use Rattle.sheet.specs.Making.{made-by, Listed, Matches}
 use Rattle.sheet.proofs.Taken.{Taken, none, pop-taken, all-taken, optional-stack, first-if-taken, stmts-front}
 use Rattle.sheet.proofs.Made.{enough, remains, misplaced, made, expr-made, decl-made}

@@ -20,7 +20,7 @@ use Rattle.script.specs.Sound.{Sound-declaration, Sound-init, Sound-stmt, Sound
 use Rattle.sheet.specs.Rows.{Row, end, row-length}
 use Rattle.sheet.specs.Embedding.{expr-row, exprs-row, optional-row, init-kind, is-present, for-head, init-exprs, init-stmts, declarators-row, stmt-row}
 use Rattle.sheet.specs.Embedding.{alternate-row, stmts-row, cases-row, expr-stack, stmt-stack, decl-stack}
-use Rattle.sheet.specs.Shape.{number as flag, survey, decl-survey, first-declared, values-fit, branches, init-expressions, head-expressions}
+use Rattle.sheet.specs.Shape.{one-if as flag, survey, decl-survey, first-declared, values-fit, branches, init-expressions, head-expressions}
 use Rattle.sheet.specs.Shape.{for-fits, switch-fits, Shaped-exprs, Shaped-decls, Shaped-stmts}
 use Rattle.sheet.proofs.Decoding.{expr-row-length}
 use Rattle.sheet.proofs.Surveys.{both, join, optional-length, optional-bare, stmt-row-count, stmt-row-cases, stmt-row-lexicals}

@@ -13,7 +13,7 @@ use Rattle.script.specs.Stacks.{Item, statement, case, lexical-declaration}
 use Rattle.sheet.specs.declared.rule.StmtSurvey.{StmtSurvey}
 use Rattle.sheet.specs.Rows.{Row, end, row-length}
 use Rattle.sheet.specs.Embedding.{optional-row, is-present, stmt-row, stmt-stack}
-use Rattle.sheet.specs.Shape.{number, survey}
+use Rattle.sheet.specs.Shape.{one-if, survey}
 use Rattle.sheet.proofs.Decoding.{expr-row-length}
 
 -- tests that hold together
@@ -25,12 +25,12 @@ pub join : (a b : Bool) → a ≡ true → b ≡ true → (a && b) ≡ true
 join true b p q = q
 join false b p q = p
 
-pub flag-clear : (b : Bool) → number b ≡ 0 → b ≡ false
+pub flag-clear : (b : Bool) → one-if b ≡ 0 → b ≡ false
 flag-clear true e = absurd (omega arith)
 flag-clear false e = refl
 
 -- a row of one expression or none
-pub optional-length : (v : OptionalExpr) → row-length (optional-row v end) ≡ number (is-present v)
+pub optional-length : (v : OptionalExpr) → row-length (optional-row v end) ≡ one-if (is-present v)
 optional-length absent = refl
 optional-length (present e) = expr-row-length e end
 
@@ -40,7 +40,7 @@ optional-bare (present e) = ap (λ (n : ℕ). eqb n 0) (expr-row-length e end)
 
 -- one statement more
 abbrev with-statement : Stmt → StmtSurvey → StmtSurvey
-with-statement s v = record { count = v .count + 1; cases = v .cases + 0; defaults = v .defaults + 0; lexicals = v .lexicals + number (lexical-declaration s) }
+with-statement s v = record { count = v .count + 1; cases = v .cases + 0; defaults = v .defaults + 0; lexicals = v .lexicals + one-if (lexical-declaration s) }
 
 stmt-row-survey : (s : Stmt) (w : Row) → survey (stmt-row s w) ≡ with-statement s (survey w)
 stmt-row-survey empty w = refl
@@ -66,7 +66,7 @@ stmt-row-cases s w = ap (λ (v : StmtSurvey). v .cases) (stmt-row-survey s w)
 pub stmt-row-defaults : (s : Stmt) (w : Row) → survey (stmt-row s w) .defaults ≡ survey w .defaults + 0
 stmt-row-defaults s w = ap (λ (v : StmtSurvey). v .defaults) (stmt-row-survey s w)
 
-pub stmt-row-lexicals : (s : Stmt) (w : Row) → survey (stmt-row s w) .lexicals ≡ survey w .lexicals + number (lexical-declaration s)
+pub stmt-row-lexicals : (s : Stmt) (w : Row) → survey (stmt-row s w) .lexicals ≡ survey w .lexicals + one-if (lexical-declaration s)
 stmt-row-lexicals s w = ap (λ (v : StmtSurvey). v .lexicals) (stmt-row-survey s w)
 
 -- rows of items

@@ -12,7 +12,7 @@ use Rattle.script.specs.Tree.{empty, expression, declaration, return-of, throw,
 use Rattle.script.specs.Stacks.{Item, statement, case, Declarator, declarator, Performed, lacks, pop, pop-if, pops}
 use Rattle.sheet.specs.Rows.{Row, end}
 use Rattle.sheet.specs.Embedding.{expr-row, optional-row, item-row, declarator-row, expr-stack, stmt-stack, decl-stack, is-present}
-use Rattle.sheet.specs.Shape.{number as flag-number}
+use Rattle.sheet.specs.Shape.{one-if as flag-number}
 use Rattle.sheet.specs.Turning.{front, behind}
 use Rattle.sheet.specs.Making.{Less-exprs, Less-stmts, Less-decls}
 

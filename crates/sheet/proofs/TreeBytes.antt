@@ -20,7 +20,7 @@ use Rattle.script.specs.Written.{stmt-bytes, alternate-bytes, stmts-bytes, case
 use Rattle.sheet.specs.Rows.{Row, end, row-length}
 use Rattle.sheet.specs.Embedding.{expr-row, exprs-row, optional-row, declarators-row, declaration-row, init-kind, is-present, for-head, init-exprs, init-stmts}
 use Rattle.sheet.specs.Embedding.{stmt-row, alternate-row, stmts-row, cases-row}
-use Rattle.sheet.specs.Shape.{number as one-if}
+use Rattle.sheet.specs.Shape.{one-if as one-if}
 use Rattle.sheet.specs.Bytes.{exprs-row-bytes, decls-row-bytes, first-bytes, others-bytes, stmts-row-bytes, body-row-bytes, init-order, in-order, init-bits, head-bits}
 
 -- lengths of rows

@@ -24,7 +24,7 @@ use Rattle.sheet.specs.Heap.{Heap, Place, expr-label, stmt-label, decl-label}
 use Rattle.sheet.specs.Rows.{Row, end, node, At, row-length, size}
 use Rattle.sheet.specs.Owned.{Short}
 use Rattle.sheet.specs.Readable.{reach}
-use Rattle.sheet.specs.Shape.{number}
+use Rattle.sheet.specs.Shape.{one-if}
 
 -- a command with its operands
 abbrev pub spelled : Spelling → List ℕ → List ℕ
@@ -58,7 +58,7 @@ init-bits init.Expression = 1
 init-bits init.Declaration = 2
 
 abbrev pub head-bits : ForHead → ℕ
-head-bits h = init-bits (h .init) + (4 * number (h .test) + 8 * number (h .update))
+head-bits h = init-bits (h .init) + (4 * one-if (h .test) + 8 * one-if (h .update))
 
 -- the command of a statement with so many expressions, statements and declarators
 abbrev pub stmt-spelling : StatementKind → ℕ → ℕ → ℕ → Spelling

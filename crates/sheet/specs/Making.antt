@@ -11,14 +11,14 @@ use Rattle.script.specs.declared.StatementKind.{StatementKind}
 use Rattle.script.specs.declared.StatementKind.the-variants as kind
 use Rattle.script.specs.declared.Command.{Command}
 use Rattle.script.specs.declared.Command.the-variants as command
-use Rattle.script.specs.Tree.{Stmts}
+use Rattle.script.specs.Tree.{Expr, Stmts}
 use Rattle.script.specs.Stacks.{Item, Declarator, Stacks, Performed, lacks, misplaces, puts-expr, puts-item, puts-declarator, puts-body}
 use Rattle.sheet.specs.declared.making.Making.{Making}
 use Rattle.sheet.specs.declared.making.Making.the-variants as makes
 use Rattle.sheet.specs.Heap.{expr-label, stmt-label, decl-label}
 use Rattle.sheet.specs.Rows.{Row, end, node}
 use Rattle.sheet.specs.Embedding.{expr-row, item-row, declarator-row, stmts-row, expr-stack, stmt-stack, decl-stack}
-use Rattle.sheet.specs.Shape.{number, head-expressions, init-statements, fits-stmt, survey, decl-survey, first-declared}
+use Rattle.sheet.specs.Shape.{one-if, head-expressions, init-statements, fits-stmt, survey, decl-survey, first-declared}
 use Rattle.sheet.specs.Turning.{front, behind}
 
 abbrev pub made-by : Command → Making
@@ -33,20 +33,20 @@ made-by (command.Logical o) = makes.Expr (expression.Logical o) 2
 made-by command.Not = makes.Expr expression.Not 1
 made-by command.Void = makes.Expr expression.Void 1
 made-by command.StrictEquality = makes.Expr expression.StrictEquality 2
-made-by (command.Declarator n v) = makes.Decl n (number v)
+made-by (command.Declarator n v) = makes.Decl n (one-if v)
 made-by command.Empty = makes.Stmt kind.Empty 0 0 0
 made-by command.Expression = makes.Stmt kind.Expression 1 0 0
 made-by (command.Declaration k c) = makes.Stmt (kind.Declaration k) 0 0 c
-made-by (command.Return v) = makes.Stmt kind.Return (number v) 0 0
+made-by (command.Return v) = makes.Stmt kind.Return (one-if v) 0 0
 made-by command.Throw = makes.Stmt kind.Throw 1 0 0
-made-by (command.If a) = makes.Stmt kind.If 1 (1 + number a) 0
+made-by (command.If a) = makes.Stmt kind.If 1 (1 + one-if a) 0
 made-by (command.Block c) = makes.Stmt kind.Block 0 c 0
 made-by command.While = makes.Stmt kind.While 1 1 0
 made-by command.DoWhile = makes.Stmt kind.DoWhile 1 1 0
 made-by (command.For h) = makes.Stmt (kind.For h) (head-expressions h) (1 + init-statements (h .init)) 0
 made-by command.Break = makes.Stmt kind.Break 0 0 0
 made-by command.Continue = makes.Stmt kind.Continue 0 0 0
-made-by (command.Case t c) = makes.Stmt kind.Case (number t) c 0
+made-by (command.Case t c) = makes.Stmt kind.Case (one-if t) c 0
 made-by (command.Switch c) = makes.Stmt kind.Switch 1 c 0
 made-by (command.Body c) = makes.Body c
 
@@ -81,7 +81,7 @@ Listed (command.Switch c) = Unit {0}
 Listed (command.Body c) = Unit {0}
 
 -- a stack after n of its items were taken
-pub record Less-exprs (n : ℕ) (before after : List Rattle.script.specs.Tree.Expr) : Type 0 where
+pub record Less-exprs (n : ℕ) (before after : List Expr) : Type 0 where
   pub rows : expr-stack after ≡ behind n (expr-stack before)
   pub count : length after + n ≡ length before
 

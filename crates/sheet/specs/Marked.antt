@@ -26,7 +26,7 @@ use Rattle.sheet.specs.declared.check.Roots.{Roots}
 use Rattle.sheet.specs.Heap.{Heap, Place, expr-at, stmt-at, decl-at, expr-label, stmt-label, decl-label, blank-stmt, Within, spare}
 use Rattle.sheet.specs.Rows.{Row, end, node, At, uses, row-length}
 use Rattle.sheet.specs.Owned.{Short, Chains, Owns}
-use Rattle.sheet.specs.Shape.{number, surveyed, survey, decl-survey, kind-declared, fits-stmt, Shaped-exprs, Shaped-stmts, Shaped-decls}
+use Rattle.sheet.specs.Shape.{one-if, surveyed, survey, decl-survey, kind-declared, fits-stmt, Shaped-exprs, Shaped-stmts, Shaped-decls}
 use Rattle.sheet.specs.Readable.{tables}
 use Rattle.sheet.specs.Holds.{Holds, Holds-whole}
 
@@ -62,7 +62,7 @@ length-from n end = n
 length-from n (node l x y z w) = length-from (n + 1) w
 
 abbrev pub with-declarator : ℕ → DeclSurvey → DeclSurvey
-with-declarator n s = record { count = s .count + 1; bare = s .bare + number (eqb n 0) }
+with-declarator n s = record { count = s .count + 1; bare = s .bare + one-if (eqb n 0) }
 
 abbrev pub declarators-from : DeclSurvey → Row → DeclSurvey
 declarators-from s end = s

@@ -37,9 +37,10 @@ fits-expr expression.StrictEquality n = eqb n 2
 abbrev pub no-survey : StmtSurvey
 no-survey = record { count = 0; cases = 0; defaults = 0; lexicals = 0 }
 
-abbrev pub number : Bool → ℕ
-number true = 1
-number false = 0
+-- 1 where a test holds, else 0
+abbrev pub one-if : Bool → ℕ
+one-if true = 1
+one-if false = 0
 
 abbrev pub is-case : StatementKind → Bool
 is-case kind.Empty = false
@@ -82,9 +83,9 @@ lexical-option (Some k) = lexical-kind k
 abbrev pub surveyed : StatementKind → ℕ → StmtSurvey → StmtSurvey
 surveyed k n s = record
   { count = s .count + 1
-  ; cases = s .cases + number (is-case k)
-  ; defaults = s .defaults + number (is-case k && eqb n 0)
-  ; lexicals = s .lexicals + number (lexical-option (kind-declared k))
+  ; cases = s .cases + one-if (is-case k)
+  ; defaults = s .defaults + one-if (is-case k && eqb n 0)
+  ; lexicals = s .lexicals + one-if (lexical-option (kind-declared k))
   }
 
 abbrev pub survey : Row → StmtSurvey
@@ -95,7 +96,7 @@ survey (node (decl-label n) x y z w) = survey w
 
 abbrev pub decl-survey : Row → DeclSurvey
 decl-survey end = record { count = 0; bare = 0 }
-decl-survey (node l x y z w) = record { count = decl-survey w .count + 1; bare = decl-survey w .bare + number (eqb (row-length x) 0) }
+decl-survey (node l x y z w) = record { count = decl-survey w .count + 1; bare = decl-survey w .bare + one-if (eqb (row-length x) 0) }
 
 -- how the first statement of a row is declared
 abbrev pub first-declared : Row → Option DeclarationKind
@@ -125,7 +126,7 @@ init-expressions init.Expression = 1
 init-expressions init.Declaration = 0
 
 abbrev pub head-expressions : ForHead → ℕ
-head-expressions h = init-expressions (h .init) + (number (h .test) + number (h .update))
+head-expressions h = init-expressions (h .init) + (one-if (h .test) + one-if (h .update))
 
 -- how many statements it has before its body
 abbrev pub init-statements : ForInit → ℕ
@@ -138,7 +139,7 @@ abbrev pub for-fits : ForInit → StmtSurvey → Option DeclarationKind → Bool
 for-fits init.Absent s first = eqb (s .count) 1 && eqb (s .lexicals) 0
 for-fits init.Expression s first = eqb (s .count) 1 && eqb (s .lexicals) 0
 for-fits init.Declaration s None = false
-for-fits init.Declaration s (Some k) = eqb (s .count) 2 && eqb (s .lexicals) (number (lexical-kind k))
+for-fits init.Declaration s (Some k) = eqb (s .count) 2 && eqb (s .lexicals) (one-if (lexical-kind k))
 
 -- a switch has a case at least, nothing else, and one default at most
 abbrev pub switch-fits : StmtSurvey → DeclSurvey → Bool

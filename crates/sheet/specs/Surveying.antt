@@ -18,14 +18,15 @@ use Rattle.sheet.specs.Rows.{Row, At, row-length}
 use Rattle.sheet.specs.Owned.{Short}
 use Rattle.sheet.specs.Shape.{no-survey, survey, first-declared, decl-survey}
 
+-- a table is a list of its records
 abbrev pub ExprTable : Type 0
-ExprTable = ExprRecord
+ExprTable = List ExprRecord
 
 abbrev pub StmtTable : Type 0
-StmtTable = StmtRecord
+StmtTable = List StmtRecord
 
 abbrev pub DeclTable : Type 0
-DeclTable = DeclRecord
+DeclTable = List DeclRecord
 
 -- counts that so many more statements cannot overflow
 pub record Room-for (n : ℕ) (s : StmtSurvey) : Type 0 where

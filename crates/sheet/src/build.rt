@@ -1,7 +1,7 @@
 // Putting what a command makes: its parts come off the stacks, and its record goes on one of them.
 ghost use mathlib.Core.Path.{_≡_};
 ghost use mathlib.Core.Bool.{true, false};
-ghost use mathlib.Core.List.{List, map};
+ghost use mathlib.Core.List.{map};
 ghost use Prim.Native.Nat.{ℕ, _+_, _-_, _<_, _≤_};
 ghost use lib.ListN.{length, set};
 ghost use Rattle.pool.specs.Chain.{nowhere};
@@ -121,7 +121,7 @@ pub struct Surveyed {
 
 fn survey_from(stmts: &[StmtRecord], at: u32, count: u32, seen: Surveyed) -> Surveyed
     requires { ⌜ Room-for count (seen .survey) ⌝ }
-    ensures { λ r. ⌜ ((es : List ExprTable) (ds : List DeclTable) (s acc : Row) → Surveys es (now (stmts .entry)) ds at count s acc seen → Surveyed-as r (front count s acc)) ⌝ }
+    ensures { λ r. ⌜ ((es : ExprTable) (ds : DeclTable) (s acc : Row) → Surveys es (now (stmts .entry)) ds at count s acc seen → Surveyed-as r (front count s acc)) ⌝ }
 {
     if count == 0 || at as usize >= stmts.len() {
         return seen;
@@ -134,7 +134,7 @@ fn survey_from(stmts: &[StmtRecord], at: u32, count: u32, seen: Surveyed) -> Sur
 
 fn decl_survey_from(decls: &[DeclRecord], at: u32, count: u32, seen: DeclSurvey) -> DeclSurvey
     requires { ⌜ (seen .bare ≤ seen .count) × (seen .count + count ≤ nowhere) ⌝ }
-    ensures { λ r. ⌜ ((es : List ExprTable) (ss : List StmtTable) (s acc : Row) → Decl-surveys es ss (now (decls .entry)) at count s acc seen → r ≡ decl-survey (front count s acc)) ⌝ }
+    ensures { λ r. ⌜ ((es : ExprTable) (ss : StmtTable) (s acc : Row) → Decl-surveys es ss (now (decls .entry)) at count s acc seen → r ≡ decl-survey (front count s acc)) ⌝ }
 {
     if count == 0 || at as usize >= decls.len() {
         return seen;
@@ -148,7 +148,7 @@ const NOTHING_SEEN: StmtSurvey = StmtSurvey { count: 0, cases: 0, defaults: 0, l
 
 // What the topmost statements are, seen from nothing.
 fn survey_top(stmts: &[StmtRecord], top: u32, count: u32) -> Surveyed
-    ensures { λ r. ⌜ ((es : List ExprTable) (ds : List DeclTable) (s : Row) → Surveys es (now (stmts .entry)) ds top count s end nothing-seen → Surveyed-as r (front count s end)) ⌝ }
+    ensures { λ r. ⌜ ((es : ExprTable) (ds : DeclTable) (s : Row) → Surveys es (now (stmts .entry)) ds top count s end nothing-seen → Surveyed-as r (front count s end)) ⌝ }
 {
     survey_from(stmts, top, count, Surveyed { survey: NOTHING_SEEN, first: None })
 }
@@ -180,7 +180,7 @@ pub fn put_stmt(draft: &mut Draft, exprs: &mut [ExprRecord], stmts: &mut [StmtRe
 
 // Whether the topmost statements hold a case.
 fn has_case(stmts: &[StmtRecord], top: u32, count: u32) -> bool
-    ensures { λ r. ⌜ ((es : List ExprTable) (ds : List DeclTable) (s : Row) → Surveys es (now (stmts .entry)) ds top count s end nothing-seen → Has-case r (survey (front count s end) .cases)) ⌝ }
+    ensures { λ r. ⌜ ((es : ExprTable) (ds : DeclTable) (s : Row) → Surveys es (now (stmts .entry)) ds top count s end nothing-seen → Has-case r (survey (front count s end) .cases)) ⌝ }
 {
     let inner = survey_top(stmts, top, count);
     inner.survey.cases != 0
