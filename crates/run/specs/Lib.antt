@@ -1,0 +1,12 @@
+pub mod Values
+pub mod Environment
+pub mod World
+pub mod Completion
+pub mod Evaluate
+pub mod Names
+pub mod Execute
+pub mod Run
+pub mod EveryList
+pub mod Fits
+pub mod Examples
+pub mod Laws
