@@ -35,3 +35,4 @@ pub mod StmtsMarked
 pub mod RootsMarked
 pub mod SheetsHeld
 pub mod Promises
+pub mod Copies

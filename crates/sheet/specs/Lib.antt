@@ -14,3 +14,4 @@ pub mod Holds
 pub mod Judged
 pub mod Marked
 pub mod Calls
+pub mod Copies

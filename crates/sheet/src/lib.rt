@@ -3,6 +3,7 @@ mod build;
 mod bytes;
 mod check;
 mod closing;
+mod copying;
 mod fault;
 mod feeding;
 mod making;
@@ -15,6 +16,7 @@ mod turn;
 mod output;
 
 pub use closing::{Unclosed, close};
+pub use copying::{Copied, Refused, Spared, copy};
 pub use fault::{ReadFault, ReadFromSheet, SheetFault, SheetFromPool};
 pub use feeding::{Fed, feed};
 pub use record::{DeclLinked, DeclRecord, Draft, ExprLinked, ExprRecord, Pools, Stack, Stage, StmtLinked, StmtRecord, Whole};

@@ -1,7 +1,6 @@
 // Tables of records made in the heap, for programs that lend them to the calls of `sheet`.
 mod pass;
 
-pub use pass::{Passed, Refusal};
 use script::ExpressionKind;
 use script::StatementKind;
 use script::Word;
