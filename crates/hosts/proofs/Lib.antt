@@ -1,0 +1,5 @@
+pub mod Standing
+pub mod Laws
+pub mod Walks
+pub mod Steps
+pub mod Generic

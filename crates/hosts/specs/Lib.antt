@@ -1,0 +1,5 @@
+pub mod Meaning
+pub mod Known
+pub mod Asked
+pub mod Told
+pub mod Walked
