@@ -19,23 +19,28 @@ mutual
     not : Expr → Expr
     void : Expr → Expr
     strict-equality : Expr → Expr → Expr
+    deriving Discrete as Expr-discrete
 
   pub data Exprs : Type 0 where
     no-exprs : Exprs
     expr-then : Expr → Exprs → Exprs
+    deriving Discrete as Exprs-discrete
 
 pub data OptionalExpr : Type 0 where
   absent : OptionalExpr
   present : Expr → OptionalExpr
+  deriving Discrete as OptionalExpr-discrete
 
 pub data Declarators : Type 0 where
   no-declarators : Declarators
   declarator-then : ℕ → OptionalExpr → Declarators → Declarators
+  deriving Discrete as Declarators-discrete
 
 pub data Init : Type 0 where
   no-init : Init
   init-expression : Expr → Init
   init-declaration : DeclarationKind → Declarators → Init
+  deriving Discrete as Init-discrete
 
 mutual
   pub data Stmt : Type 0 where
@@ -52,16 +57,20 @@ mutual
     switch : Expr → Cases → Stmt
     break : Stmt
     continue : Stmt
+    deriving Discrete as Stmt-discrete
 
   pub data Alternate : Type 0 where
     no-alternate : Alternate
     alternate : Stmt → Alternate
+    deriving Discrete as Alternate-discrete
 
   pub data Stmts : Type 0 where
     no-stmts : Stmts
     stmt-then : Stmt → Stmts → Stmts
+    deriving Discrete as Stmts-discrete
 
   -- a case without a test is the default
   pub data Cases : Type 0 where
     no-cases : Cases
     case-then : OptionalExpr → Stmts → Cases → Cases
+    deriving Discrete as Cases-discrete
