@@ -52,9 +52,9 @@ impl Pool {
     pub fn start<R: Linked>(table: &mut [R]) -> Result<Pool, PoolFault>
         ensures { elim result [
           | Ok p ↦ (length table.new ≤ nowhere) × (p.count ≡ length table.new)
-              × Chain (map link table.new) p.head p.count
-              × (places (map link table.new) p.head p.count ≡ range_with_len 0 (length table.new))
-          | Err f ↦ (f ≡ PoolFault.TooLong tag) × (nowhere < length table.old) × (table.new ≡ table.old)
+              × Chain (map R.link table.new) p.head p.count
+              × (places (map R.link table.new) p.head p.count ≡ range_with_len 0 (length table.new))
+          | Err f ↦ (f ≡ PoolFault.TooLong R.tag) × (nowhere < length table.old) × (table.new ≡ table.old)
         ] }
     {
         if table.len() > NOWHERE as usize {
@@ -75,8 +75,8 @@ impl Pool {
 
     // Takes the first spare record.
     pub fn take<R: Linked>(&mut self, table: &[R]) -> Result<u32, PoolFault>
-        ensures answer { result ≡ taken tag (map link table.now) self.old }
-        ensures after { self.new ≡ pool_after (map link table.now) self.old }
+        ensures answer { result ≡ taken R.tag (map R.link table.now) self.old }
+        ensures after { self.new ≡ pool_after (map R.link table.now) self.old }
     {
         if self.count == 0 {
             return Err(PoolFault::Empty(R::tag()));
@@ -92,9 +92,9 @@ impl Pool {
 
     // Gives a record back: it is the first spare then.
     pub fn give<R: Linked>(&mut self, table: &mut [R], at: u32) -> Result<(), PoolFault>
-        ensures answer { result ≡ given tag (length table.old) at self.old }
+        ensures answer { result ≡ given R.tag (length table.old) at self.old }
         ensures accepted { elim result [
-          | Ok u ↦ (table.new ≡ modify (λ x. relinked x self.old.head) at table.old)
+          | Ok u ↦ (table.new ≡ modify (λ x. R.relinked x self.old.head) at table.old)
               × (self.new ≡ record { head = at; count = self.old.count + 1 })
           | Err f ↦ (table.new ≡ table.old) × (self.new ≡ self.old)
         ] }

@@ -12,7 +12,7 @@ returns g c =
     let e₁ : ltb at (length table) ≡ true = lt-ltb at (length table) c.if-at-table.false in
     let e₂ : eqb count nowhere ≡ false = ne_eqb count nowhere c.if-self.false in
     let x = get_or table at c.index-table-at.result in
-    let w : set table at c.set-next.new.self ≡ set table at (g.R.Linked.relinked x head) = ap (set table at) c.set-next.ensures in
+    let w : set table at c.set_next.new.self ≡ set table at (g.R.Linked.relinked x head) = ap (set table at) c.set_next.ensures in
     record {
       answer = rw (e₁, e₂);
       accepted = (w ∙ set_modify (λ y. g.R.Linked.relinked y head) at table c.index-table-at.result c.if-at-table.false, refl);
