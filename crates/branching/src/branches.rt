@@ -69,8 +69,8 @@ pub fn open_expression(stmts: &mut [StmtRecord], spares: &mut Pool, at: u32) -> 
 // The expression behind a `!`, whose record is given back.
 pub fn open_not(exprs: &mut [ExprRecord], spares: &mut Pool, at: u32) -> u32
     ensures { (ss : List StmtEntry) (ds : List DeclEntry) (s d : Spare) (e : Expr) →
-        Turns (tables exprs.entry.now ss ds) (record { exprs = spares.old; stmts = s; decls = d })
-        (tables exprs.exit.now ss ds) (record { exprs = spares.new; stmts = s; decls = d })
+        Turns (tables exprs.old ss ds) (record { exprs = spares.old; stmts = s; decls = d })
+        (tables exprs.new ss ds) (record { exprs = spares.new; stmts = s; decls = d })
         [] ((expr_at at, expr_row (not e) end) ∷ []) ((expr_at result, expr_row e end) ∷ []) }
 {
     let expr = expr_at(exprs, at);

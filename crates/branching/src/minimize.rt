@@ -203,7 +203,7 @@ fn minimize_empty_alone<H: Host>(
     ensures { (ds : List DeclEntry) (t : Expr) →
         Turns (tables exprs.old stmts.old ds) pools.old (tables exprs.new stmts.new ds) pools.new
         (stmt_at at ∷ []) ((expr_at test, expr_row t end) ∷ [])
-        ((stmt_at at, stmt_row (minimize_empty_alone (meaning host.now) t) end) ∷ []) }
+        ((stmt_at at, stmt_row (minimize_empty_alone (H.meaning host.now) t) end) ∷ []) }
 {
     if host.is_harmless(exprs, test) {
         drop_expr_row(exprs, pools, test);
@@ -250,7 +250,7 @@ fn minimize_without_consequent<H: Host>(
     ensures { (ds : List DeclEntry) (t : Expr) (a : Alternate) → Enough (to_take 3 1) pools.old →
         Turns (tables exprs.old stmts.old ds) pools.old (tables exprs.new stmts.new ds) pools.new
         (stmt_at at ∷ []) ((expr_at test, expr_row t end) ∷ (stmt_at other, alternate_row a) ∷ [])
-        ((stmt_at at, stmt_row (minimize_empty_if (meaning host.now) t a) end) ∷ []) }
+        ((stmt_at at, stmt_row (minimize_empty_if (H.meaning host.now) t a) end) ∷ []) }
 {
     if other == NOWHERE {
         minimize_empty_alone(host, exprs, stmts, pools, at, test);
@@ -272,7 +272,7 @@ fn minimize_empty_if<H: Host>(
     ensures { (ds : List DeclEntry) (t : Expr) (c : Stmt) (a : Alternate) → is_nothing (empty? c) ≡ true → Enough (to_take 3 1) pools.old →
         Turns (tables exprs.old stmts.old ds) pools.old (tables exprs.new stmts.new ds) pools.new
         (stmt_at at ∷ []) ((expr_at test, expr_row t end) ∷ (stmt_at branches, stmt_row c (alternate_row a)) ∷ [])
-        ((stmt_at at, stmt_row (minimize_empty_if (meaning host.now) t a) end) ∷ []) }
+        ((stmt_at at, stmt_row (minimize_empty_if (H.meaning host.now) t a) end) ∷ []) }
 {
     let stmt = stmt_at(stmts, branches);
     minimize_without_consequent(host, exprs, stmts, pools, at, test, stmt.next);
@@ -294,7 +294,7 @@ pub fn try_minimize_if<H: Host>(
         Turns (tables exprs.old stmts.old decls.old) pools.old
         (tables exprs.new stmts.new decls.new) pools.new
         (stmt_at at ∷ []) ((expr_at test, expr_row t end) ∷ (stmt_at branches, stmt_row c (alternate_row a)) ∷ [])
-        ((stmt_at result, stmt_row (try_minimize_if (meaning host.now) t c a) end) ∷ []) }
+        ((stmt_at result, stmt_row (try_minimize_if (H.meaning host.now) t c a) end) ∷ []) }
 {
     if is_empty(stmts, branches) {
         minimize_empty_if(host, exprs, stmts, pools, at, test, branches);

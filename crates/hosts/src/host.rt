@@ -40,7 +40,7 @@ pub struct Facts {
 
 // Whether an expression may be dropped where its value is not wanted: then it leaves every state as it is.
 pub fn may_drop<H: Host>(host: &H, exprs: &[ExprRecord], at: u32) -> bool
-    ensures answer { Answers (meaning host.now).harmless exprs.now at result }
+    ensures answer { Answers (H.meaning host.now).harmless exprs.now at result }
     ensures leaves { AskedSo (λ e. result ≡ true → (s : State) → Leaves e s) exprs.now at }
 {
     host.is_harmless(exprs, at)
@@ -48,7 +48,7 @@ pub fn may_drop<H: Host>(host: &H, exprs: &[ExprRecord], at: u32) -> bool
 
 // The three facts, and that each is so in every run.
 pub fn all_facts<H: Host>(host: &H, exprs: &[ExprRecord], at: u32) -> Facts
-    ensures answer { Answers (facts_of (meaning host.now)) exprs.now at result }
+    ensures answer { Answers (facts_of (H.meaning host.now)) exprs.now at result }
     ensures so { AskedSo (λ e. So result e) exprs.now at }
 {
     Facts {

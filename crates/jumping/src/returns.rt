@@ -275,7 +275,7 @@ fn leave_argument<H: Host>(
     ensures { (ds : List DeclEntry) (e : Expr) (r : Stmts) → 1 ≤ pools.old.exprs.count → 1 ≤ pools.old.stmts.count →
         Turns (tables exprs.old stmts.old ds) pools.old (tables exprs.new stmts.new ds) pools.new
         [] ((expr_at value, expr_row e end) ∷ (stmt_at results, stmts_row r) ∷ [])
-        ((stmt_at result, stmts_row (if (meaning host.now).harmless e then r else push_new_expression_stmt_to_result sequences e r)) ∷ []) }
+        ((stmt_at result, stmts_row (if (H.meaning host.now).harmless e then r else push_new_expression_stmt_to_result sequences e r)) ∷ []) }
 {
     if host.is_harmless(exprs, value) {
         drop_expr_row(exprs, pools, value);
@@ -297,8 +297,8 @@ fn drop_undefined_argument<H: Host>(
     ensures { (ds : List DeclEntry) (v : OptionalExpr) (r : Stmts) → 1 ≤ pools.old.exprs.count → 1 ≤ pools.old.stmts.count →
         Turns (tables exprs.old stmts.old ds) pools.old (tables exprs.new stmts.new ds) pools.new
         [] ((expr_at value, optional_row v end) ∷ (stmt_at results, stmts_row r) ∷ [])
-        ((expr_at result.target, optional_row (drop_undefined_argument sequences (meaning host.now) v r).target end)
-        ∷ (stmt_at result.results, stmts_row (drop_undefined_argument sequences (meaning host.now) v r).results) ∷ []) }
+        ((expr_at result.target, optional_row (drop_undefined_argument sequences (H.meaning host.now) v r).target end)
+        ∷ (stmt_at result.results, stmts_row (drop_undefined_argument sequences (H.meaning host.now) v r).results) ∷ []) }
 {
     if value == NOWHERE {
         return Worked {
@@ -333,7 +333,7 @@ pub fn handle_return_statement<H: Host>(
         Turns (tables exprs.old stmts.old decls.old) pools.old
         (tables exprs.new stmts.new decls.new) pools.new
         (stmt_at at ∷ []) ((expr_at value, optional_row v end) ∷ (stmt_at results, stmts_row r) ∷ [])
-        ((stmt_at result, stmts_row (handle_return_statement sequences (meaning host.now) (holder_of holder) v r)) ∷ []) }
+        ((stmt_at result, stmts_row (handle_return_statement sequences (H.meaning host.now) (holder_of holder) v r)) ∷ []) }
 {
     let merged = merge_leading_into_declaration(exprs, stmts, decls, pools, value, results);
     let worked = drop_undefined_argument(

@@ -274,7 +274,7 @@ fn mark_roots(
 // Marks a chain of spares, unless it leaves the table, meets a marked record, or does not end where the count says.
 fn mark_spares<R: Linked>(pool: &Pool, table: &[R], marks: &mut [u8]) -> bool
     requires { length marks.old ≡ length table.now }
-    ensures { ChainMarked result marks.old (map link table.now) pool.now.head pool.now.count marks.new }
+    ensures { ChainMarked result marks.old (map R.link table.now) pool.now.head pool.now.count marks.new }
 {
     let mut at = pool.head;
     for _i in 0..pool.count {

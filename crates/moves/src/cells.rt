@@ -62,7 +62,7 @@ pub fn set<R: Copy>(table: &mut [R], at: u32, record: R)
 
 // Takes the first spare record; NOWHERE if there is none.
 pub fn take<R: Linked>(pool: &mut Pool, table: &[R]) -> u32
-    ensures { Took (map link table.now) pool.old result pool.new }
+    ensures { Took (map R.link table.now) pool.old result pool.new }
 {
     match pool.take(table) {
         Ok(at) => at,
@@ -72,7 +72,7 @@ pub fn take<R: Linked>(pool: &mut Pool, table: &[R]) -> u32
 
 // Gives a record back: it is the first spare then.
 pub fn give<R: Linked>(pool: &mut Pool, table: &mut [R], at: u32)
-    ensures { Gave relinked table.old pool.old at table.new pool.new }
+    ensures { Gave R.relinked table.old pool.old at table.new pool.new }
 {
     let _ = pool.give(table, at);
 }

@@ -18,7 +18,7 @@ use records::{DeclRecord, ExprRecord, Pools, StmtRecord};
 
 // What is behind a place.
 fn next_of<R: Linked>(table: &[R], at: u32) -> u32
-    ensures { result ≡ slice_index (map link table.now) at }
+    ensures { result ≡ slice_index (map R.link table.now) at }
 {
     if at as usize >= table.len() {
         return 0;
@@ -29,7 +29,7 @@ fn next_of<R: Linked>(table: &[R], at: u32) -> u32
 // The last place of a row that is not empty.
 fn end_of_row<R: Linked>(table: &[R], row: u32) -> u32
     ensures { (n : ℕ) → n < length table.now → length table.now ≤ nowhere →
-        Chain (map link table.now) row (suc n) → result ≡ links_on (map link table.now) row n }
+        Chain (map R.link table.now) row (suc n) → result ≡ links_on (map R.link table.now) row n }
 {
     let mut at = row;
     for _i in 0..table.len() {
@@ -45,8 +45,8 @@ fn end_of_row<R: Linked>(table: &[R], row: u32) -> u32
 // Puts a row behind another that is not empty.
 fn link_behind<R: Linked>(table: &mut [R], row: u32, more: u32)
     ensures { (n : ℕ) → n < length table.old → length table.old ≤ nowhere →
-        Chain (map link table.old) row (suc n) →
-        table.new ≡ modify (λ x. relinked x more) (links_on (map link table.old) row n) table.old }
+        Chain (map R.link table.old) row (suc n) →
+        table.new ≡ modify (λ x. R.relinked x more) (links_on (map R.link table.old) row n) table.old }
 {
     let last = end_of_row(table, row);
     if (last as usize) < table.len() {

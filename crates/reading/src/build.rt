@@ -15,7 +15,7 @@ use shapes::{DeclSurvey, StmtSurvey, fits_stmt, kind_declared, surveyed};
 
 // A spare record of a table.
 fn take<R: Linked>(pool: &mut Pool, table: &[R]) -> Result<u32, SheetFault>
-    ensures { Took result tag (map link table.now) pool.old pool.new }
+    ensures { Took result R.tag (map R.link table.now) pool.old pool.new }
 {
     let at = pool.take(table)?;
     Ok(at)

@@ -16,7 +16,7 @@ pub struct TurnedRow {
 fn relink<R: Linked>(table: &mut [R], at: u32, row: u32) -> Option<u32>
     ensures { elim result [
       | None ↦ (length table.old ≤ at) × (table.new ≡ table.old)
-      | Some next ↦ (at < length table.old) × (table.new ≡ modify (λ x. relinked x row) at table.old) × (next ≡ slice_index (map link table.old) at)
+      | Some next ↦ (at < length table.old) × (table.new ≡ modify (λ x. R.relinked x row) at table.old) × (next ≡ slice_index (map R.link table.old) at)
     ] }
 {
     if at as usize >= table.len() {
@@ -29,7 +29,7 @@ fn relink<R: Linked>(table: &mut [R], at: u32, row: u32) -> Option<u32>
 
 // Takes the first `count` records off a row and turns them round, by their links alone.
 pub fn turn<R: Linked>(table: &mut [R], top: u32, count: u32) -> TurnedRow
-    ensures { turned link relinked count table.entry.now top nowhere ≡ record { table = table.exit.now; row = result.row; rest = result.rest } }
+    ensures { turned R.link R.relinked count table.old top nowhere ≡ record { table = table.new; row = result.row; rest = result.rest } }
 {
     let mut row = NOWHERE;
     let mut rest = top;

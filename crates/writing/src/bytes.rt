@@ -83,8 +83,8 @@ fn put_spelling(out: &mut [u8], at: usize, spelling: Spelling) -> usize
 // How many records a row has.
 fn count<R: Linked>(table: &[R], row: u32) -> u16
     requires short { length table.now ≤ nowhere }
-    requires countable { Countable (map link table.now) row }
-    ensures { Chain (map link table.now) row result }
+    requires countable { Countable (map R.link table.now) row }
+    ensures { Chain (map R.link table.now) row result }
 {
     let mut at = row;
     let mut count = 0;
