@@ -13,4 +13,4 @@ returns g c =
     let h = c.if-at-table.false in
     let d = c.index-table-at-2.result in
     let d' = c.index-table-at.result in
-    (h, ap (set t at) c.set-next.ensures ∙ set_modify (λ x. relinked x row) at t d h, c.next-next.ensures ∙ sym (get_or-map link t at d' 0 h))
+    (h, ap (set t at) c.set_next.ensures ∙ set_modify (λ x. relinked x row) at t d h, c.next-next.ensures ∙ sym (get_or-map link t at d' 0 h))

@@ -11,7 +11,7 @@ loop-i-init g c =
 
 pub returns-in-None : goal.returns-in-None
 returns-in-None g c =
-    let n = c.args.count - c.loop-i.-i in
+    let n = c.args.count - c.loop-i._i in
     let same = c.in-None.ensures.1 in
     let h : length c.relink.new.table ≤ c.loop-i.rest = rw same c.in-None.ensures.0 in
     c.loop-i.invariant.same ∙ ap (λ t. turned g.R.Linked.link g.R.Linked.relinked n t c.loop-i.rest c.loop-i.row) (sym same)
@@ -24,9 +24,9 @@ loop-i-preserved g c =
     let t = c.loop-i.table in
     let rest = c.loop-i.rest in
     let row = c.loop-i.row in
-    let n = c.args.count - (c.loop-i.-i + 1) in
+    let n = c.args.count - (c.loop-i._i + 1) in
     let h = c.loop-i-test.true in
-    let e : c.args.count - c.loop-i.-i ≡ suc n = omega arith in
+    let e : c.args.count - c.loop-i._i ≡ suc n = omega arith in
     let q = c.in-Some.ensures in
     record {
       same =
@@ -37,5 +37,5 @@ loop-i-preserved g c =
 pub returns : goal.returns
 returns g c =
     let h = c.loop-i-test.false in
-    let e : c.args.count - c.loop-i.-i ≡ 0 = omega arith in
+    let e : c.args.count - c.loop-i._i ≡ 0 = omega arith in
     c.loop-i.invariant.same ∙ ap (λ n. turned g.R.Linked.link g.R.Linked.relinked n c.loop-i.table c.loop-i.rest c.loop-i.row) e

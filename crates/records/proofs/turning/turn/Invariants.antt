@@ -5,4 +5,4 @@ use Rattle.records.proofs.turning.turn.Given as goal
 
 abbrev pub invariant-loop-i : goal.invariant-loop-i
 invariant-loop-i g l =
-    Turning g.R.Linked.link g.R.Linked.relinked l.count l.initial.table l.top nowhere (l.count - l.-i) l.table l.rest l.row
+    Turning g.R.Linked.link g.R.Linked.relinked l.count l.initial.table l.top nowhere (l.count - l._i) l.table l.rest l.row
