@@ -7,35 +7,35 @@ use Rattle.hosts.proofs.reader.+walk_walk_row.Goals as goal
 pub walk-returns-then-budget-eq0 : goal.walk-returns-then-budget-eq0
 walk-returns-then-budget-eq0 t c = walked_broke c.args.exprs.now c.args.at c.args.budget c.if-budget-eq0.true
 
-pub walk-returns-in-err-expr : goal.walk-returns-in-err-expr
-walk-returns-in-err-expr t c =
-    subst (λ (r : Option ℕ). WalksOne c.args.exprs.now c.args.at c.args.budget r) (sym c.from-residual.ensures)
-    (walked_outside c.args.exprs.now c.args.at c.args.budget c.in-err-expr.ensures)
+pub walk-returns-in_err-expr : goal.walk-returns-in_err-expr
+walk-returns-in_err-expr t c =
+    subst (λ (r : Option ℕ). WalksOne c.args.exprs.now c.args.at c.args.budget r) (sym c.from_residual.ensures)
+    (walked_outside c.args.exprs.now c.args.at c.args.budget c.in_err-expr.ensures)
 
 pub walk-returns-in-Always : goal.walk-returns-in-Always
 walk-returns-in-Always t c =
-    let x = c.in-ok-expr.ensures in
-    walked c.args.exprs.now c.args.at c.args.budget c.in-ok-expr.expr _ Always (omega arith) x.1 c.in-Always.ensures refl
+    let x = c.in_ok-expr.ensures in
+    walked c.args.exprs.now c.args.at c.args.budget c.in_ok-expr.expr _ Always (omega arith) x.1 c.in-Always.ensures refl
 
 pub walk-returns-in-ByParts : goal.walk-returns-in-ByParts
 walk-returns-in-ByParts t c =
-    let x = c.in-ok-expr.ensures in
-    walked c.args.exprs.now c.args.at c.args.budget c.in-ok-expr.expr _ ByParts (omega arith) x.1 c.in-ByParts.ensures c.walk-row.ensures
+    let x = c.in_ok-expr.ensures in
+    walked c.args.exprs.now c.args.at c.args.budget c.in_ok-expr.expr _ ByParts (omega arith) x.1 c.in-ByParts.ensures c.walk_row.ensures
 
 pub walk-returns-in-Never : goal.walk-returns-in-Never
 walk-returns-in-Never t c =
-    let x = c.in-ok-expr.ensures in
-    walked c.args.exprs.now c.args.at c.args.budget c.in-ok-expr.expr _ Never (omega arith) x.1 c.in-Never.ensures refl
+    let x = c.in_ok-expr.ensures in
+    walked c.args.exprs.now c.args.at c.args.budget c.in_ok-expr.expr _ Never (omega arith) x.1 c.in-Never.ensures refl
 
-pub walk-row-returns-in-err-left : goal.walk-row-returns-in-err-left
-walk-row-returns-in-err-left t c =
-    subst (λ (r : Option ℕ). WalksRow c.args.exprs.now c.args.row c.args.budget r) (sym c.from-residual.ensures)
-    (along_broke c.args.exprs.now c.args.row c.args.budget c.loop-expr.at c.loop-expr.left c.loop-expr.invariant c.in-Some.ensures.0 c.in-err-left.ensures)
+pub walk_row-returns-in_err-left : goal.walk_row-returns-in_err-left
+walk_row-returns-in_err-left t c =
+    subst (λ (r : Option ℕ). WalksRow c.args.exprs.now c.args.row c.args.budget r) (sym c.from_residual.ensures)
+    (along_broke c.args.exprs.now c.args.row c.args.budget c.loop-expr.at c.loop-expr.left c.loop-expr.invariant c.in-Some.ensures.0 c.in_err-left.ensures)
 
-pub walk-row-loop-expr-preserved : goal.walk-row-loop-expr-preserved
-walk-row-loop-expr-preserved t c =
+pub walk_row-loop-expr-preserved : goal.walk_row-loop-expr-preserved
+walk_row-loop-expr-preserved t c =
     let x = c.in-Some.ensures in
-    along_on c.args.exprs.now c.args.row c.args.budget c.loop-expr.at c.loop-expr.left c.in-ok-left.left c.in-Some.expr c.loop-expr.invariant x.0 x.1 c.in-ok-left.ensures
+    along_on c.args.exprs.now c.args.row c.args.budget c.loop-expr.at c.loop-expr.left c.in_ok-left.left c.in-Some.expr c.loop-expr.invariant x.0 x.1 c.in_ok-left.ensures
 
-pub walk-row-returns : goal.walk-row-returns
-walk-row-returns t c = along_end c.args.exprs.now c.args.row c.args.budget c.loop-expr.at c.loop-expr.left c.loop-expr.invariant c.in-default.ensures
+pub walk_row-returns : goal.walk_row-returns
+walk_row-returns t c = along_end c.args.exprs.now c.args.row c.args.budget c.loop-expr.at c.loop-expr.left c.loop-expr.invariant c.in_default.ensures

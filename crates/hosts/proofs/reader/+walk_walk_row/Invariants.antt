@@ -5,11 +5,11 @@ use Rattle.hosts.proofs.reader.+walk_walk_row.Given as goal
 abbrev pub decreases-walk : goal.decreases-walk
 decreases-walk l = 2 * l.budget
 
-abbrev pub decreases-walk-row : goal.decreases-walk-row
-decreases-walk-row l = 2 * l.budget + 1
+abbrev pub decreases-walk_row : goal.decreases-walk_row
+decreases-walk_row l = 2 * l.budget + 1
 
-abbrev pub invariant-walk-row-loop-expr : goal.invariant-walk-row-loop-expr
-invariant-walk-row-loop-expr l = Along l.exprs l.row l.budget l.at l.left
+abbrev pub invariant-walk_row-loop-expr : goal.invariant-walk_row-loop-expr
+invariant-walk_row-loop-expr l = Along l.exprs l.row l.budget l.at l.left
 
-abbrev pub decreases-walk-row-loop-expr : goal.decreases-walk-row-loop-expr
-decreases-walk-row-loop-expr l = l.left
+abbrev pub decreases-walk_row-loop-expr : goal.decreases-walk_row-loop-expr
+decreases-walk_row-loop-expr l = l.left
