@@ -2,8 +2,8 @@ use Rattle.lending.specs.Marked.{unmarked}
 use Rattle.lending.proofs.ExprsMarked.{ExprsGoing}
 use Rattle.lending.proofs.check.+mark_exprs.Given as goal
 
-abbrev pub decreases-mark-exprs : goal.decreases-mark-exprs
-decreases-mark-exprs l = unmarked l.marks.now
+abbrev pub decreases-mark_exprs : goal.decreases-mark_exprs
+decreases-mark_exprs l = unmarked l.marks.now
 
 abbrev pub invariant-loop-at : goal.invariant-loop-at
 invariant-loop-at l = ExprsGoing l.exprs l.initial.marks l.row l.marks l.at l.count

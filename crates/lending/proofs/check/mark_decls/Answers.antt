@@ -4,50 +4,50 @@ use Rattle.lending.proofs.DeclsMarked.{decls_ended, decls_unclaimed, decls_value
 use Rattle.lending.proofs.check.mark_decls.Goals as goal
 
 pub loop-at-init : goal.loop-at-init
-loop-at-init c = decls_start c.args.exprs.now c.args.decls.now c.args.marks-exprs.now c.args.marks-decls.now c.args.row c.requires.decls.0 c.requires.decls.1
+loop-at-init c = decls_start c.args.exprs.now c.args.decls.now c.args.marks_exprs.now c.args.marks_decls.now c.args.row c.requires.decls.0 c.requires.decls.1
 
 pub returns-then-not-claim : goal.returns-then-not-claim
 returns-then-not-claim c = λ ss ms s.
-    c.loop-at.invariant.on ss ms s None c.loop-at.marks-exprs c.claim.new.marks (decls_unclaimed c.args.exprs.now c.args.decls.now c.loop-at.at c.loop-at.survey c.loop-at.marks-exprs c.loop-at.marks-decls ss ms s c.loop-at.marks-exprs c.claim.new.marks c.loop-at-test.true c.if-not-claim.ensures.1)
+    c.loop-at.invariant.on ss ms s None c.loop-at.marks_exprs c.claim.new.marks (decls_unclaimed c.args.exprs.now c.args.decls.now c.loop-at.at c.loop-at.survey c.loop-at.marks_exprs c.loop-at.marks_decls ss ms s c.loop-at.marks_exprs c.claim.new.marks c.loop-at-test.true c.if-not-claim.ensures.1)
 
-pub returns-in-err-values : goal.returns-in-err-values
-returns-in-err-values c = λ ss ms s.
-    let k = c.loop-at.auto.marks-decls in
+pub returns-in_err-values : goal.returns-in_err-values
+returns-in_err-values c = λ ss ms s.
+    let k = c.loop-at.auto.marks_decls in
     let p = c.requires.decls in
-    let fit : length c.loop-at.marks-decls ≡ length c.args.decls.now = omega arith in
-    c.loop-at.invariant.on ss ms s c.from-residual.result c.mark-exprs.new.marks c.claim.new.marks (decls_value c.args.exprs.now c.args.decls.now c.loop-at.at c.loop-at.survey c.loop-at.marks-exprs c.loop-at.marks-decls ss ms s c.claim.new.marks fit c.if-not-claim.ensures c.mark-exprs.new.marks c.from-residual.result c.from-residual.ensures (c.in-err-values.ensures.row ss c.args.decls.now ms c.claim.new.marks s))
+    let fit : length c.loop-at.marks_decls ≡ length c.args.decls.now = omega arith in
+    c.loop-at.invariant.on ss ms s c.from_residual.result c.mark_exprs.new.marks c.claim.new.marks (decls_value c.args.exprs.now c.args.decls.now c.loop-at.at c.loop-at.survey c.loop-at.marks_exprs c.loop-at.marks_decls ss ms s c.claim.new.marks fit c.if-not-claim.ensures c.mark_exprs.new.marks c.from_residual.result c.from_residual.ensures (c.in_err-values.ensures.row ss c.args.decls.now ms c.claim.new.marks s))
 
 pub returns-then-values-gt1 : goal.returns-then-values-gt1
 returns-then-values-gt1 c = λ ss ms s.
-    let k = c.loop-at.auto.marks-decls in
+    let k = c.loop-at.auto.marks_decls in
     let p = c.requires.decls in
-    let fit : length c.loop-at.marks-decls ≡ length c.args.decls.now = omega arith in
-    c.loop-at.invariant.on ss ms s None c.mark-exprs.new.marks c.claim.new.marks (decls_misfit c.args.exprs.now c.args.decls.now c.loop-at.at c.loop-at.survey c.loop-at.marks-exprs c.loop-at.marks-decls ss ms s c.claim.new.marks fit c.if-not-claim.ensures c.mark-exprs.new.marks c.in-ok-values.values (c.in-ok-values.ensures.row ss c.args.decls.now ms c.claim.new.marks s) c.if-values-gt1.true)
+    let fit : length c.loop-at.marks_decls ≡ length c.args.decls.now = omega arith in
+    c.loop-at.invariant.on ss ms s None c.mark_exprs.new.marks c.claim.new.marks (decls_misfit c.args.exprs.now c.args.decls.now c.loop-at.at c.loop-at.survey c.loop-at.marks_exprs c.loop-at.marks_decls ss ms s c.claim.new.marks fit c.if-not-claim.ensures c.mark_exprs.new.marks c.in_ok-values.values (c.in_ok-values.ensures.row ss c.args.decls.now ms c.claim.new.marks s) c.if-values-gt1.true)
 
-pub with-declarator-survey-requires : goal.with-declarator-survey-requires
-with-declarator-survey-requires c =
-    let k = c.loop-at.auto.marks-decls in
+pub with_declarator-survey-requires : goal.with_declarator-survey-requires
+with_declarator-survey-requires c =
+    let k = c.loop-at.auto.marks_decls in
     let p = c.requires.decls in
-    let fit : length c.loop-at.marks-decls ≡ length c.args.decls.now = omega arith in
-    let u = claimed_unmarked c.loop-at.marks-decls c.loop-at.at (length c.args.decls.now) c.claim.new.marks fit c.if-not-claim.ensures in
+    let fit : length c.loop-at.marks_decls ≡ length c.args.decls.now = omega arith in
+    let u = claimed_unmarked c.loop-at.marks_decls c.loop-at.at (length c.args.decls.now) c.claim.new.marks fit c.if-not-claim.ensures in
     let r = c.loop-at.invariant.room in
     (omega arith, c.loop-at.invariant.few)
 
 pub loop-at-smaller : goal.loop-at-smaller
 loop-at-smaller c =
-    let k = c.loop-at.auto.marks-decls in
+    let k = c.loop-at.auto.marks_decls in
     let p = c.requires.decls in
-    let fit : length c.loop-at.marks-decls ≡ length c.args.decls.now = omega arith in
-    let u = claimed_unmarked c.loop-at.marks-decls c.loop-at.at (length c.args.decls.now) c.claim.new.marks fit c.if-not-claim.ensures in
+    let fit : length c.loop-at.marks_decls ≡ length c.args.decls.now = omega arith in
+    let u = claimed_unmarked c.loop-at.marks_decls c.loop-at.at (length c.args.decls.now) c.claim.new.marks fit c.if-not-claim.ensures in
     omega arith
 
 pub loop-at-preserved : goal.loop-at-preserved
 loop-at-preserved c =
-    let k = c.loop-at.auto.marks-decls in
+    let k = c.loop-at.auto.marks_decls in
     let p = c.requires.decls in
-    let fit : length c.loop-at.marks-decls ≡ length c.args.decls.now = omega arith in
-    decls_again c.loop-at.invariant c.claim.new.marks fit c.if-not-claim.ensures c.mark-exprs.new.marks c.in-ok-values.values c.in-ok-values.ensures.row c.if-values-gt1.false c.with-declarator-survey.result c.with-declarator-survey.ensures
+    let fit : length c.loop-at.marks_decls ≡ length c.args.decls.now = omega arith in
+    decls_again c.loop-at.invariant c.claim.new.marks fit c.if-not-claim.ensures c.mark_exprs.new.marks c.in_ok-values.values c.in_ok-values.ensures.row c.if-values-gt1.false c.with_declarator-survey.result c.with_declarator-survey.ensures
 
 pub returns : goal.returns
 returns c = λ ss ms s.
-    c.loop-at.invariant.on ss ms s (Some c.loop-at.survey) c.loop-at.marks-exprs c.loop-at.marks-decls (decls_ended c.args.exprs.now c.args.decls.now c.loop-at.at c.loop-at.survey c.loop-at.marks-exprs c.loop-at.marks-decls ss ms s c.loop-at-test.false)
+    c.loop-at.invariant.on ss ms s (Some c.loop-at.survey) c.loop-at.marks_exprs c.loop-at.marks_decls (decls_ended c.args.exprs.now c.args.decls.now c.loop-at.at c.loop-at.survey c.loop-at.marks_exprs c.loop-at.marks_decls ss ms s c.loop-at-test.false)

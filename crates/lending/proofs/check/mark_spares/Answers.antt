@@ -16,7 +16,7 @@ returns-then-not-claim g c =
     let table = c.args.table.now in
     let n = c.args.pool.now.count in
     let t = c.loop-i-test.true in
-    let e : n - c.loop-i.-i ≡ suc (n - (c.loop-i.-i + 1)) = omega arith in
+    let e : n - c.loop-i._i ≡ suc (n - (c.loop-i._i + 1)) = omega arith in
     let i = rw e at c.loop-i.invariant in
     going_out _ (length table) c.claim.new.marks (length-map table link) i c.if-not-claim.ensures
 
@@ -26,7 +26,7 @@ loop-i-preserved g c =
     let table = c.args.table.now in
     let n = c.args.pool.now.count in
     let t = c.loop-i-test.true in
-    let e : n - c.loop-i.-i ≡ suc (n - (c.loop-i.-i + 1)) = omega arith in
+    let e : n - c.loop-i._i ≡ suc (n - (c.loop-i._i + 1)) = omega arith in
     let i = rw e at c.loop-i.invariant in
     let h = c.if-not-claim.ensures in
     let x : get_or (map link table) c.loop-i.at 0 ≡ c.next-at.result = get_or-map link table c.loop-i.at c.index-table-at.result 0 h.0 ∙ ap link (sym c.index-table-at.is) ∙ sym c.next-at.ensures in
@@ -35,6 +35,6 @@ loop-i-preserved g c =
 pub returns : goal.returns
 returns g c =
     let n = c.args.pool.now.count in
-    let e : n - c.loop-i.-i ≡ 0 = let t = c.loop-i-test.false in omega arith in
+    let e : n - c.loop-i._i ≡ 0 = let t = c.loop-i-test.false in omega arith in
     let i = rw e at c.loop-i.invariant in
     going_end i

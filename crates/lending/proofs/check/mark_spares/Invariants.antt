@@ -3,4 +3,4 @@ use Rattle.lending.proofs.SparesMarked.{Going}
 use Rattle.lending.proofs.check.mark_spares.Given as goal
 
 abbrev pub invariant-loop-i : goal.invariant-loop-i
-invariant-loop-i g l = Going l.initial.marks (map g.R.Linked.link l.table) l.pool.head l.pool.count l.marks l.at (l.pool.count - l.-i)
+invariant-loop-i g l = Going l.initial.marks (map g.R.Linked.link l.table) l.pool.head l.pool.count l.marks l.at (l.pool.count - l._i)

@@ -6,11 +6,11 @@ use Rattle.reading.specs.Surveying.{DeclSurveys}
 use Rattle.records.specs.Turning.{front}
 use Rattle.reading.proofs.Looking.{stop_decls, step_decls}
 use Rattle.reading.proofs.build.+decl_survey_from.Goals as goal
-use Rattle.reading.proofs.build.+decl_survey_from.Goals.{then_count_eq0_via_then_count_eq0, then_count_eq0_via_else_count_eq0+then_at_decls, then_record, else_record}
+use Rattle.reading.proofs.build.+decl_survey_from.Goals.{then-count-eq0-via-then-count-eq0, then-count-eq0-via-else-count-eq0+then-at-decls, then_record, else_record}
 
 pub returns-then-count-eq0 : goal.returns-then-count-eq0
 returns-then-count-eq0 t c es ss s acc h =
-    let e : (c.args.count ≡ 0) ⊎ _ = elim c.then-count-eq0.branch [ then_count_eq0_via_then_count_eq0 w ↦ inl w.if-count-eq0.true | then_count_eq0_via_else_count_eq0+then_at_decls w ↦ inr w.if-at-decls.true ] in
+    let e : (c.args.count ≡ 0) ⊎ _ = elim c.then-count-eq0.branch [ then-count-eq0-via-then-count-eq0 w ↦ inl w.if-count-eq0.true | then-count-eq0-via-else-count-eq0+then-at-decls w ↦ inr w.if-at-decls.true ] in
     stop_decls es ss c.args.decls.now c.args.at c.args.count s acc c.args.seen h e
 
 pub returns : goal.returns
@@ -20,7 +20,7 @@ returns t c es ss s acc h =
     let n = c.args.count - 1 in
     let e : c.args.count ≡ suc n = let q = c.if-count-eq0.false in omega arith in
     let r = get_or ds at blank_decl in
-    let bare : ((r.value ≡ nowhere) × (c.if-record.bare ≡ c.args.seen.bare + 1)) ⊎ ((r.value ≢ nowhere) × (c.if-record.bare ≡ c.args.seen.bare)) = elim c.if-record.branch [ then_record w ↦ inl (w.if_record.true, w.bare-is) | else_record w ↦ inr (w.if_record.false, w.bare-is) ] in
+    let bare : ((r.value ≡ nowhere) × (c.if-record.bare ≡ c.args.seen.bare + 1)) ⊎ ((r.value ≢ nowhere) × (c.if-record.bare ≡ c.args.seen.bare)) = elim c.if-record.branch [ then_record w ↦ inl (w.if-record.true, w.bare-is) | else_record w ↦ inr (w.if-record.false, w.bare-is) ] in
     let h' = subst (λ k. DeclSurveys es ss ds at k s acc c.args.seen) e h in
     let q = step_decls es ss ds at n s acc c.args.seen c.if-record.bare h' c.if-at-decls.false bare in
-    c.decl-survey-from.ensures es ss q.0 q.1 q.2 ∙ ap decl_survey (q.3 ∙ ap (λ k. front k s acc) (sym e))
+    c.decl_survey_from.ensures es ss q.0 q.1 q.2 ∙ ap decl_survey (q.3 ∙ ap (λ k. front k s acc) (sym e))

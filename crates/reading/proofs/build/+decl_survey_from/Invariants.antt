@@ -1,4 +1,4 @@
 use Rattle.reading.proofs.build.+decl_survey_from.Given as goal
 
-abbrev pub decreases-decl-survey-from : goal.decreases-decl-survey-from
-decreases-decl-survey-from l = l.count
+abbrev pub decreases-decl_survey_from : goal.decreases-decl_survey_from
+decreases-decl_survey_from l = l.count

@@ -12,4 +12,4 @@ told n m e = by (eqb n 0) refl
     by false t = λ z. eqb-false n 0 t (e ∙ z)
 
 pub returns : goal.returns
-returns c es ds s h = told _ _ (ap (λ (v : StmtSurvey). v.cases) (c.survey-top-inner.ensures es ds s h).survey)
+returns c es ds s h = told _ _ (ap (λ (v : StmtSurvey). v.cases) (c.survey_top-inner.ensures es ds s h).survey)

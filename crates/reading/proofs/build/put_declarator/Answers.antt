@@ -5,16 +5,16 @@ use Rattle.reading.specs.Building.{awaiting_command}
 use Rattle.records.specs.declared.record.DeclRecord.{DeclRecord}
 use Rattle.reading.proofs.build.put_declarator.Goals as goal
 
-pub returns-in-err-at : goal.returns-in-err-at
-returns-in-err-at c =
+pub returns-in_err-at : goal.returns-in_err-at
+returns-in_err-at c =
     let d = c.args.draft.now in
-    let p = err_from_is_err_and c.from-residual.result c.from-residual.ensures.1 in
-    let q = c.in-err-at.ensures in
-    rw p.1 (inr (c.if-draft-parts.false, (c.in-err-at.field-0.0, p.2, q.0)), (λ i. record { stage = d.stage; exprs = d.exprs; stmts = d.stmts; decls = d.decls; pools = record { exprs = d.pools.exprs; stmts = d.pools.stmts; decls = q.1 i } }), refl, refl)
+    let p = err_from_is_err_and c.from_residual.result c.from_residual.ensures.1 in
+    let q = c.in_err-at.ensures in
+    rw p.1 (inr (c.if-draft-parts.false, (c.in_err-at.field-0.0, p.2, q.0)), (λ i. record { stage = d.stage; exprs = d.exprs; stmts = d.stmts; decls = d.decls; pools = record { exprs = d.pools.exprs; stmts = d.pools.stmts; decls = q.1 i } }), refl, refl)
 
 pub bounds-decls-at : goal.bounds-decls-at
 bounds-decls-at c =
-    let q = c.in-ok-at.ensures in
+    let q = c.in_ok-at.ensures in
     let l = length-map c.args.decls.now (λ (x : DeclRecord). x.next) in
     let h = q.1.1 in
     let e = q.0 in
@@ -23,7 +23,7 @@ bounds-decls-at c =
 pub returns : goal.returns
 returns c =
     let d = c.args.draft.now in
-    let q = c.in-ok-at.ensures in
+    let q = c.in_ok-at.ensures in
     let t = sym c.turn-turned.ensures in (
       c.if-draft-parts.false,
       q.1,

@@ -6,21 +6,21 @@ use Rattle.records.specs.declared.record.Draft.{Draft}
 use Rattle.reading.specs.Building.{draft_with_stmt, stmt_put}
 use Rattle.reading.proofs.build.put_stmt.Goals as goal
 
-pub place-stmt-requires : goal.place-stmt-requires
-place-stmt-requires c =
-    let q = c.in-ok-at.ensures in
+pub place_stmt-requires : goal.place_stmt-requires
+place_stmt-requires c =
+    let q = c.in_ok-at.ensures in
     let l = length-map c.args.stmts.now (λ (x : StmtRecord). x.next) in
     let h = q.1.1 in
     let e = q.0 in
     record { within = omega arith; room = c.requires; enough = c.if-not-enough.ensures }
 
-pub returns-in-err-at : goal.returns-in-err-at
-returns-in-err-at c =
+pub returns-in_err-at : goal.returns-in_err-at
+returns-in_err-at c =
     let d = c.args.draft.now in
-    let p = err_from_is_err_and c.from-residual.result c.from-residual.ensures.1 in
-    let q = c.in-err-at.ensures in
+    let p = err_from_is_err_and c.from_residual.result c.from_residual.ensures.1 in
+    let q = c.in_err-at.ensures in
     rw p.1 (
-      inr (inr (c.if-not-enough.ensures, c.if-not-fitting.ensures, (c.in-err-at.field-0.0, p.2, q.0))),
+      inr (inr (c.if-not-enough.ensures, c.if-not-fitting.ensures, (c.in_err-at.field-0.0, p.2, q.0))),
       (λ i. record { stage = d.stage; exprs = d.exprs; stmts = d.stmts; decls = d.decls; pools = record { exprs = d.pools.exprs; stmts = q.1 i; decls = d.pools.decls } }),
       refl,
       refl,
@@ -30,12 +30,12 @@ returns-in-err-at c =
 pub returns : goal.returns
 returns c =
     let d = c.args.draft.now in
-    let q = c.in-ok-at.ensures in
+    let q = c.in_ok-at.ensures in
     let es = c.args.exprs.now in
     let ss = c.args.stmts.now in
     let ds = c.args.decls.now in
     let n = c.args.parts in
-    let p = c.place-stmt.ensures in
+    let p = c.place_stmt.ensures in
     let with_pool : _ → Draft = λ r. record { stage = d.stage; exprs = d.exprs; stmts = d.stmts; decls = d.decls; pools = record { exprs = d.pools.exprs; stmts = r; decls = d.pools.decls } } in (
       c.if-not-enough.ensures,
       c.if-not-fitting.ensures,

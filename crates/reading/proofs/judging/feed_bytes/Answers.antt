@@ -6,8 +6,8 @@ use Rattle.reading.proofs.judging.feed_bytes.Goals as goal
 pub loop-i-init : goal.loop-i-init
 loop-i-init c m holds = midway_start c.args.bytes.now m _ c.args.draft.now holds
 
-pub feed-byte-requires : goal.feed-byte-requires
-feed-byte-requires c =
+pub feed_byte-requires : goal.feed_byte-requires
+feed_byte-requires c =
     let mid = c.loop-i.invariant c.requires.held.0 c.requires.held.1 in
     let a = c.loop-i.auto.exprs in
     let b = c.loop-i.auto.stmts in
@@ -20,12 +20,12 @@ feed-byte-requires c =
 pub returns-in-Err : goal.returns-in-Err
 returns-in-Err c m holds =
     let mid = c.loop-i.invariant m holds in
-    midway_refused c.args.bytes.now c.loop-i.i m _ c.loop-i.draft mid c.loop-i-test.true c.in-Err.fault _ c.feed-byte.new.draft (c.in-Err.ensures mid.model mid.holds)
+    midway_refused c.args.bytes.now c.loop-i.i m _ c.loop-i.draft mid c.loop-i-test.true c.in-Err.fault _ c.feed_byte.new.draft (c.in-Err.ensures mid.model mid.holds)
 
 pub loop-i-preserved : goal.loop-i-preserved
 loop-i-preserved c m holds =
     let mid = c.loop-i.invariant m holds in
-    midway_next c.args.bytes.now c.loop-i.i m _ c.loop-i.draft mid c.loop-i-test.true _ c.feed-byte.new.draft (c.in-Ok.ensures mid.model mid.holds)
+    midway_next c.args.bytes.now c.loop-i.i m _ c.loop-i.draft mid c.loop-i-test.true _ c.feed_byte.new.draft (c.in-Ok.ensures mid.model mid.holds)
 
 pub returns : goal.returns
 returns c m holds = midway_end c.args.bytes.now c.loop-i.i m _ c.loop-i.draft (c.loop-i.invariant m holds) c.loop-i-test.false

@@ -11,6 +11,6 @@ returns c row a =
     let bytes = body_row_bytes row in
     let s = small_row (tables c.args.exprs.now c.args.stmts.now c.args.decls.now) (stmt_at c.args.body) c.requires row a in
     let l = body_most row in
-    let e = sym (c.write-whole.ensures row a) ∙ placed_none 0 bytes (omega arith) in
-    let n : c.write-whole.result ≡ 0 + length bytes = ap (λ (p : List ℕ × ℕ). p.1) e in
+    let e = sym (c.write_whole.ensures row a) ∙ placed_none 0 bytes (omega arith) in
+    let n : c.write_whole.result ≡ 0 + length bytes = ap (λ (p : List ℕ × ℕ). p.1) e in
     omega arith

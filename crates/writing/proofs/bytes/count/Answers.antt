@@ -5,8 +5,8 @@ use Rattle.pool.specs.Chain.{Chain}
 use Rattle.records.proofs.Counting.{linked_on, linked_off}
 use Rattle.writing.proofs.bytes.count.Goals as goal
 
-pub overflow-cast-at : goal.overflow-cast-at
-overflow-cast-at g c =
+pub overflow_cast-at : goal.overflow_cast-at
+overflow_cast-at g c =
     let links = map g.R.Linked.link c.args.table.now in
     let i = c.loop-at.invariant in
     let o = linked_on links c.loop-at.at i.1 i.4 c.loop-at-test.true in
@@ -22,8 +22,8 @@ bounds-table-at g c =
     let v = o.within in
     omega (arith, length-map c.args.table.now g.R.Linked.link)
 
-pub offset-bounds-table-at : goal.offset-bounds-table-at
-offset-bounds-table-at g c =
+pub offset_bounds-table-at : goal.offset_bounds-table-at
+offset_bounds-table-at g c =
     let links = map g.R.Linked.link c.args.table.now in
     let i = c.loop-at.invariant in
     let o = linked_on links c.loop-at.at i.1 i.4 c.loop-at-test.true in

@@ -28,5 +28,5 @@ count-names-requires c =
 pub returns : goal.returns
 returns c =
     commands (tables c.args.exprs.now c.args.stmts.now c.args.decls.now) c.args.at
-    c.count-values.result c.count-inner.result c.count-names.result c.stmt-spelling.result
-    c.requires.writable c.requires.some c.count-values.ensures c.count-inner.ensures c.count-names.ensures c.stmt-spelling.ensures
+    c.count-values.result c.count-inner.result c.count-names.result c.stmt_spelling.result
+    c.requires.writable c.requires.some c.count-values.ensures c.count-inner.ensures c.count-names.ensures c.stmt_spelling.ensures

@@ -9,11 +9,11 @@ use Rattle.writing.proofs.Writing.{limited, small_row}
 use Rattle.writing.proofs.Lengths.{body_most, placed_is}
 use Rattle.writing.proofs.bytes.write_body.Goals as goal
 
-pub returns-then-bytes-length-out : goal.returns-then-bytes-length-out
-returns-then-bytes-length-out c ss a s =
+pub returns-then-bytes_length-out : goal.returns-then-bytes_length-out
+returns-then-bytes_length-out c ss a s =
     let b : length (body_row_bytes (stmts_row ss)) ≡ length (body_bytes ss) = ap length (body_is ss s) in
-    let n = c.bytes-length.ensures (stmts_row ss) a in
-    let t = c.if-bytes-length-out.true in
+    let n = c.bytes_length.ensures (stmts_row ss) a in
+    let t = c.if-bytes_length-out.true in
     (omega arith, refl)
 
 pub returns : goal.returns
@@ -24,11 +24,11 @@ returns c ss a s =
     let r = stmts_row ss in
     let b : body_row_bytes r ≡ bytes = body_is ss s in
     let l : length (body_row_bytes r) ≡ length bytes = ap length b in
-    let n = c.bytes-length.ensures r a in
-    let t = c.if-bytes-length-out.false in
+    let n = c.bytes_length.ensures r a in
+    let t = c.if-bytes_length-out.false in
     let m = body_most r in
     let k = small_row h (stmt_at c.args.body) (limited h (stmt_at c.args.body) c.requires.readable c.requires.limited) r a in
     let fits : length bytes ≤ length out = omega arith in
-    let e = sym (c.write-whole.ensures r a) ∙ ap (placed out 0) b ∙ placed_is [] out bytes fits (omega arith) in
-    let z : c.write-whole.result ≡ 0 + length bytes = ap (λ (p : List ℕ × ℕ). p.1) e in
+    let e = sym (c.write_whole.ensures r a) ∙ ap (placed out 0) b ∙ placed_is [] out bytes fits (omega arith) in
+    let z : c.write_whole.result ≡ 0 + length bytes = ap (λ (p : List ℕ × ℕ). p.1) e in
     (fits, omega arith, ap (λ (p : List ℕ × ℕ). p.0) e)

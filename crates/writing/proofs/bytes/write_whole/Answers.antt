@@ -8,6 +8,6 @@ count-inner-requires c =
 
 pub returns : goal.returns
 returns c =
-    body_written (tables c.args.exprs.now c.args.stmts.now c.args.decls.now) c.args.body c.count-inner.result c.body-spelling.result c.args.out.now
-    c.write-stmts-end.new.out c.write-stmts-end.result c.put-spelling.new.out c.put-spelling.result
-    c.requires c.write-stmts-end.ensures c.count-inner.ensures c.body-spelling.ensures c.put-spelling.ensures
+    body_written (tables c.args.exprs.now c.args.stmts.now c.args.decls.now) c.args.body c.count-inner.result c.body_spelling.result c.args.out.now
+    c.write_stmts-end.new.out c.write_stmts-end.result c.put_spelling.new.out c.put_spelling.result
+    c.requires c.write_stmts-end.ensures c.count-inner.ensures c.body_spelling.ensures c.put_spelling.ensures
