@@ -10,17 +10,17 @@ loop-i-init c ss ds = pending_all (tables c.args.exprs.now ss ds) c.args.pools.n
 pub returns-then-at : goal.returns-then-at
 returns-then-at c ss ds r loose rest o =
     pending_none (tables c.args.exprs.now ss ds) c.args.pools.now (expr_at c.args.row) (tables c.loop-i.exprs ss ds) c.loop-i.pools (expr_at c.loop-i.at)
-    exprs_of c.loop-i.-i (c.loop-i.invariant ss ds) c.if-at.true r loose rest o
+    exprs_of c.loop-i._i (c.loop-i.invariant ss ds) c.if-at.true r loose rest o
 
 pub loop-i-preserved : goal.loop-i-preserved
 loop-i-preserved c ss ds =
     pending_fewer (tables c.args.exprs.now ss ds) c.args.pools.now (expr_at c.args.row) (tables c.loop-i.exprs ss ds) c.loop-i.pools (expr_at c.loop-i.at)
-    exprs_of c.loop-i.-i (c.loop-i.invariant ss ds) (tables c.drop-first-expr-at.new.exprs ss ds) c.drop-first-expr-at.new.pools
-    (expr_at c.drop-first-expr-at.result) c.if-at.false (expr_fewer (c.drop-first-expr-at.ensures ss ds))
+    exprs_of c.loop-i._i (c.loop-i.invariant ss ds) (tables c.drop_first_expr-at.new.exprs ss ds) c.drop_first_expr-at.new.pools
+    (expr_at c.drop_first_expr-at.result) c.if-at.false (expr_fewer (c.drop_first_expr-at.ensures ss ds))
 
 pub returns : goal.returns
 returns c ss ds r loose rest o =
     let f = exprs_fit r o in
     pending_out (tables c.args.exprs.now ss ds) c.args.pools.now (expr_at c.args.row) (tables c.loop-i.exprs ss ds) c.loop-i.pools (expr_at c.loop-i.at)
-    exprs_of c.loop-i.-i (c.loop-i.invariant ss ds) (λ v a e. no_exprs_there (tables c.loop-i.exprs ss ds) c.loop-i.at v a e) r
+    exprs_of c.loop-i._i (c.loop-i.invariant ss ds) (λ v a e. no_exprs_there (tables c.loop-i.exprs ss ds) c.loop-i.at v a e) r
     (omega arith) loose rest o

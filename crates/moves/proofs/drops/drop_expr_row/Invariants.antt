@@ -8,4 +8,4 @@ use Rattle.moves.proofs.drops.drop_expr_row.Given as goal
 
 abbrev pub invariant-loop-i : goal.invariant-loop-i
 invariant-loop-i l =
-    (ss : List StmtRecord) (ds : List DeclRecord) → Pending (tables l.initial.exprs ss ds) l.initial.pools (expr_at l.initial.row) (tables l.exprs ss ds) l.pools (expr_at l.at) exprs_of l.-i
+    (ss : List StmtRecord) (ds : List DeclRecord) → Pending (tables l.initial.exprs ss ds) l.initial.pools (expr_at l.initial.row) (tables l.exprs ss ds) l.pools (expr_at l.at) exprs_of l._i

@@ -4,5 +4,5 @@ use Rattle.moves.proofs.drops.drop_first_decl.Goals as goal
 
 pub returns : goal.returns
 returns c ss l x y z w =
-    rw c.decl-at-decl.ensures
-    (drop_decl l x y z w (rw c.decl-at-decl.ensures at (c.drop-expr-row.ensures ss c.args.decls.now x)) c.give.ensures)
+    rw c.decl_at-decl.ensures
+    (drop_decl l x y z w (rw c.decl_at-decl.ensures at (c.drop_expr_row.ensures ss c.args.decls.now x)) c.give.ensures)

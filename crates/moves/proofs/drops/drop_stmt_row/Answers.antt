@@ -10,17 +10,17 @@ loop-i-init c = pending_all (tables c.args.exprs.now c.args.stmts.now c.args.dec
 pub returns-then-at : goal.returns-then-at
 returns-then-at c r loose rest o =
     pending_none (tables c.args.exprs.now c.args.stmts.now c.args.decls.now) c.args.pools.now (stmt_at c.args.row) (tables c.loop-i.exprs c.loop-i.stmts c.loop-i.decls) c.loop-i.pools (stmt_at c.loop-i.at)
-    stmts_of c.loop-i.-i c.loop-i.invariant c.if-at.true r loose rest o
+    stmts_of c.loop-i._i c.loop-i.invariant c.if-at.true r loose rest o
 
 pub loop-i-preserved : goal.loop-i-preserved
 loop-i-preserved c =
     pending_fewer (tables c.args.exprs.now c.args.stmts.now c.args.decls.now) c.args.pools.now (stmt_at c.args.row) (tables c.loop-i.exprs c.loop-i.stmts c.loop-i.decls) c.loop-i.pools (stmt_at c.loop-i.at)
-    stmts_of c.loop-i.-i c.loop-i.invariant (tables c.drop-first-stmt-at.new.exprs c.drop-first-stmt-at.new.stmts c.drop-first-stmt-at.new.decls) c.drop-first-stmt-at.new.pools
-    (stmt_at c.drop-first-stmt-at.result) c.if-at.false (stmt_fewer c.drop-first-stmt-at.ensures)
+    stmts_of c.loop-i._i c.loop-i.invariant (tables c.drop_first_stmt-at.new.exprs c.drop_first_stmt-at.new.stmts c.drop_first_stmt-at.new.decls) c.drop_first_stmt-at.new.pools
+    (stmt_at c.drop_first_stmt-at.result) c.if-at.false (stmt_fewer c.drop_first_stmt-at.ensures)
 
 pub returns : goal.returns
 returns c r loose rest o =
     let f = stmts_fit r o in
     pending_out (tables c.args.exprs.now c.args.stmts.now c.args.decls.now) c.args.pools.now (stmt_at c.args.row) (tables c.loop-i.exprs c.loop-i.stmts c.loop-i.decls) c.loop-i.pools (stmt_at c.loop-i.at)
-    stmts_of c.loop-i.-i c.loop-i.invariant (λ v a e. no_stmts_there (tables c.loop-i.exprs c.loop-i.stmts c.loop-i.decls) c.loop-i.at v a e) r
+    stmts_of c.loop-i._i c.loop-i.invariant (λ v a e. no_stmts_there (tables c.loop-i.exprs c.loop-i.stmts c.loop-i.decls) c.loop-i.at v a e) r
     (omega arith) loose rest o

@@ -5,4 +5,4 @@ pub returns-then-row-eq-NOWHERE : goal.returns-then-row-eq-NOWHERE
 returns-then-row-eq-NOWHERE c ss ds p v w loose rest o = join_no_expr_row v w c.if-row-eq-NOWHERE.true o
 
 pub returns : goal.returns
-returns c ss ds p v w loose rest o = join_expr_row v w c.if-row-eq-NOWHERE.false c.link-behind.ensures o
+returns c ss ds p v w loose rest o = join_expr_row v w c.if-row-eq-NOWHERE.false c.link_behind.ensures o

@@ -3,5 +3,5 @@ use Rattle.moves.proofs.links.append_row.Goals as goal
 
 pub returns : goal.returns
 returns c ss ds p e es w loose rest o =
-    rw (c.set.ensures, c.expr-at-expr.ensures)
-    (append_behind e es w (c.last-of-row-last.ensures ss ds e es o.short o.held.0 (row_fits e es o)) o)
+    rw (c.set.ensures, c.expr_at-expr.ensures)
+    (append_behind e es w (c.last_of_row-last.ensures ss ds e es o.short o.held.0 (row_fits e es o)) o)

@@ -8,5 +8,5 @@ use Rattle.moves.proofs.links.link_expr.Goals as goal
 pub returns : goal.returns
 returns c ss ds p e w loose rest o =
     let x = get_or c.args.exprs.now c.args.at blank_expr in
-    rw (c.set.ensures, c.expr-at-expr.ensures)
+    rw (c.set.ensures, c.expr_at-expr.ensures)
     (close_expr e w (record { kind = x.kind; first = x.first; next = c.args.row }) (kind_of_expr e end o) (end_out (pick 1 (open_expr e end o))))
