@@ -6,7 +6,7 @@ use Rattle.reading.specs.Surveying.{SurveyedAs, Surveys}
 use Rattle.records.specs.Turning.{front}
 use Rattle.reading.proofs.Looking.{ToldEmpty, stop_stmts, step_stmts}
 use Rattle.reading.proofs.build.+survey_from.Goals as goal
-use Rattle.reading.proofs.build.+survey_from.Goals.{then-count-eq0-via-then-count-eq0, then-count-eq0-via-else-count-eq0+then-at-stmts, then_record, else_record}
+use Rattle.reading.proofs.build.+survey_from.Goals.{then-count-eq0-via-then-count-eq0, then-count-eq0-via-else-count-eq0+then-at-stmts, then-record, else-record}
 
 pub returns-then-count-eq0 : goal.returns-then-count-eq0
 returns-then-count-eq0 t c es ds s acc h =
@@ -19,7 +19,7 @@ returns t c es ds s acc h =
     let at = c.args.at in
     let n = c.args.count - 1 in
     let e : c.args.count ≡ suc n = let q = c.if-count-eq0.false in omega arith in
-    let told : ToldEmpty c.if-record.tests (get_or ss at blank_stmt).exprs = elim c.if-record.branch [ then_record w ↦ inl (w.if-record.true, w.tests-is) | else_record w ↦ inr (w.if-record.false, w.tests-is) ] in
+    let told : ToldEmpty c.if-record.tests (get_or ss at blank_stmt).exprs = elim c.if-record.branch [ then-record w ↦ inl (w.if-record.true, w.tests-is) | else-record w ↦ inr (w.if-record.false, w.tests-is) ] in
     let h' = subst (λ k. Surveys es ss ds at k s acc c.args.seen) e h in
     let q = step_stmts es ss ds at n s acc c.args.seen c.if-record.tests h' c.if-at-stmts.false told in
     let given : ◌≡◌ {A = Surveyed} (record { survey = surveyed (get_or ss at blank_stmt).kind c.if-record.tests c.args.seen.survey; first = kind_declared (get_or ss at blank_stmt).kind }) (record { survey = c.surveyed-survey.result; first = c.kind_declared.result }) = λ i. record { survey = sym c.surveyed-survey.ensures i; first = sym c.kind_declared.ensures i } in
