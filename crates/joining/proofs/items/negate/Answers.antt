@@ -10,11 +10,11 @@ use Rattle.joining.proofs.items.negate.Goals as goal
 
 pub returns-in-Not : goal.returns-in-Not
 returns-in-Not c ss ds e w n loose rest o =
-    let r = c.expr-at-expr.ensures in
-    rw (c.set.ensures, c.expr-at-inner.ensures, r)
+    let r = c.expr_at-expr.ensures in
+    rw (c.set.ensures, c.expr_at-inner.ensures, r)
     (moved_up (sym c.in-Not.is ∙ ap (λ (v : ExprRecord). v.kind) r) (rw r at c.give.ensures) e w o)
 
 pub returns : goal.returns
 returns c ss ds e w n loose rest o =
-    rw (negated_anew e (λ z. c.in-default.not-Not (ap (λ (v : ExprRecord). v.kind) c.expr-at-expr.ensures ∙ (kind_of_expr e w o ∙ z))))
+    rw (negated_anew e (λ z. c.in_default.not-Not (ap (λ (v : ExprRecord). v.kind) c.expr_at-expr.ensures ∙ (kind_of_expr e w o ∙ z))))
     (c.wrap.ensures ss ds e w end n loose rest (pick 1 (end_in (expr_at nowhere) refl o)))

@@ -2,16 +2,16 @@ use mathlib.Core.Path.{sym, ◌∙◌}
 use Rattle.joining.proofs.Pending.{set_aside, taken_apart}
 use Rattle.joining.proofs.logical.join_first.Goals as goal
 
-pub returns-then-has-operator : goal.returns-then-has-operator
-returns-then-has-operator c ss ds x y xs w n loose rest o =
-    let r = c.expr-at-expr.ensures in
+pub returns-then-has_operator : goal.returns-then-has_operator
+returns-then-has_operator c ss ds x y xs w n loose rest o =
+    let r = c.expr_at-expr.ensures in
     rw r
-    (taken_apart c.args.operator x y xs w (rw r at (sym c.has-operator.ensures ∙ c.if-has-operator.true))
-    (λ e es v. rw r at (c.append-row.ensures ss ds c.args.pools.now e es v)) c.give.ensures o)
+    (taken_apart c.args.operator x y xs w (rw r at (sym c.has_operator.ensures ∙ c.if-has_operator.true))
+    (λ e es v. rw r at (c.append_row.ensures ss ds c.args.pools.now e es v)) c.give.ensures o)
 
 pub returns : goal.returns
 returns c ss ds x y xs w n loose rest o =
-    let r = c.expr-at-expr.ensures in
+    let r = c.expr_at-expr.ensures in
     rw r
-    (set_aside c.args.operator x y xs w (rw r at (sym c.has-operator.ensures ∙ c.if-has-operator.false))
+    (set_aside c.args.operator x y xs w (rw r at (sym c.has_operator.ensures ∙ c.if-has_operator.false))
     (λ e u v. rw (c.set.ensures, r) at (c.wrap.ensures ss ds e u v n)) o)

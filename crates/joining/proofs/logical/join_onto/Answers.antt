@@ -26,8 +26,8 @@ returns-then-pending c ss ds x y w n loose rest o = none_left (c.loop-i.invarian
 pub loop-i-preserved : goal.loop-i-preserved
 loop-i-preserved c ss ds x y w n loose rest o =
     one_more (c.loop-i.invariant ss ds x y w n loose rest o) c.if-pending.false
-    (ap (λ (l : ℕ). record { exprs = l; stmts = length ss; decls = length ds }) (sym c.join-first-pending.auto.exprs))
-    (λ e a es v m. c.join-first-pending.ensures ss ds e a es v m)
+    (ap (λ (l : ℕ). record { exprs = l; stmts = length ss; decls = length ds }) (sym c.join_first-pending.auto.exprs))
+    (λ e a es v m. c.join_first-pending.ensures ss ds e a es v m)
 
 pub returns : goal.returns
 returns c ss ds x y w n loose rest o =

@@ -2,4 +2,4 @@ use Rattle.joining.proofs.Pending.{JoinsOn}
 use Rattle.joining.proofs.logical.join_onto.Given as goal
 
 abbrev pub invariant-loop-i : goal.invariant-loop-i
-invariant-loop-i l = JoinsOn l.initial.exprs l.initial.pools l.exprs l.pools l.operator l.at l.b l.pending l.-i
+invariant-loop-i l = JoinsOn l.initial.exprs l.initial.pools l.exprs l.pools l.operator l.at l.b l.pending l._i

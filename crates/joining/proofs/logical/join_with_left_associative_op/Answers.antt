@@ -9,5 +9,5 @@ use Rattle.joining.proofs.logical.join_with_left_associative_op.Goals as goal
 
 pub returns : goal.returns
 returns c ss ds x y w n loose rest o =
-    at_last ((expr_at c.args.b, expr_row y end) ∷ []) (join_onto c.args.operator y) (λ e v. c.join-onto.ensures ss ds y e v n) x w
-    (c.last-item-last.ensures ss ds x w o.short o.held.0 (expr_fits x w o)) loose rest o
+    at_last ((expr_at c.args.b, expr_row y end) ∷ []) (join_onto c.args.operator y) (λ e v. c.join_onto.ensures ss ds y e v n) x w
+    (c.last_item-last.ensures ss ds x w o.short o.held.0 (expr_fits x w o)) loose rest o

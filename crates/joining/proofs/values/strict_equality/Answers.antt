@@ -8,5 +8,5 @@ use Rattle.joining.proofs.values.strict_equality.Goals as goal
 pub returns : goal.returns
 returns c ss ds x y n loose rest o =
     rw c.set.ensures
-    (then_move (c.link-expr.ensures ss ds c.args.pools.now x (expr_row y end) loose rest o)
+    (then_move (c.link_expr.ensures ss ds c.args.pools.now x (expr_row y end) loose rest o)
     (λ o₁. equality_made x y (take_expr_of c.take-at.result c.take-at.new.pool c.take-at.ensures n o₁)))
