@@ -14,29 +14,29 @@ pub returns-in-Complete : goal.returns-in-Complete
 returns-in-Complete c =
     let h = tables c.args.exprs.now c.args.stmts.now c.args.decls.now in
     let d = c.args.draft in
-    let held = c.if-not-draft-held.ensures.held in
-    subst (λ (r : Whole). Closes (sizes_of h c.args.marks.now) h d c.args.marks.now (Ok r) c.draft-held.new.marks) (sym c.whole-of.ensures)
-    (subst (λ (v : Bool). Closes v h d c.args.marks.now (Ok (record { body = c.in-Complete.body; pools = d.pools })) c.draft-held.new.marks) c.if-not-sizes-fit.ensures
-    ((λ m o. closed_from h d m o c.in-Complete.body c.in-Complete.is), (λ none. absurd (none held.0 held.1)), c.if-not-draft-held.ensures.cleared))
+    let held = c.if-not-draft_held.ensures.held in
+    subst (λ (r : Whole). Closes (sizes_of h c.args.marks.now) h d c.args.marks.now (Ok r) c.draft_held.new.marks) (sym c.whole_of.ensures)
+    (subst (λ (v : Bool). Closes v h d c.args.marks.now (Ok (record { body = c.in-Complete.body; pools = d.pools })) c.draft_held.new.marks) c.if-not-sizes_fit.ensures
+    ((λ m o. closed_from h d m o c.in-Complete.body c.in-Complete.is), (λ none. absurd (none held.0 held.1)), c.if-not-draft_held.ensures.cleared))
 
 pub returns-in-Reading : goal.returns-in-Reading
 returns-in-Reading c =
     let h = tables c.args.exprs.now c.args.stmts.now c.args.decls.now in
     let d = c.args.draft in
-    let held = c.if-not-draft-held.ensures.held in
-    subst (λ (v : Bool). Closes v h d c.args.marks.now (Err (record { draft = d; fault = NoBody })) c.draft-held.new.marks) c.if-not-sizes-fit.ensures
-    ((λ m o. subst (λ (s : Stage). ClosesFrom s m.stage d (Err (record { draft = d; fault = NoBody })) h) (sym c.in-Reading.is) refl), (λ none. absurd (none held.0 held.1)), c.if-not-draft-held.ensures.cleared)
+    let held = c.if-not-draft_held.ensures.held in
+    subst (λ (v : Bool). Closes v h d c.args.marks.now (Err (record { draft = d; fault = NoBody })) c.draft_held.new.marks) c.if-not-sizes_fit.ensures
+    ((λ m o. subst (λ (s : Stage). ClosesFrom s m.stage d (Err (record { draft = d; fault = NoBody })) h) (sym c.in-Reading.is) refl), (λ none. absurd (none held.0 held.1)), c.if-not-draft_held.ensures.cleared)
 
-pub returns-then-not-draft-held : goal.returns-then-not-draft-held
-returns-then-not-draft-held c =
+pub returns-then-not-draft_held : goal.returns-then-not-draft_held
+returns-then-not-draft_held c =
     let h = tables c.args.exprs.now c.args.stmts.now c.args.decls.now in
     let d = c.args.draft in
-    let refuted = c.if-not-draft-held.ensures.held in
-    subst (λ (v : Bool). Closes v h d c.args.marks.now (Err (record { draft = d; fault = NotHeld })) c.draft-held.new.marks) c.if-not-sizes-fit.ensures
-    ((λ m o. absurd (refuted m o)), (λ none. refl), c.if-not-draft-held.ensures.cleared)
+    let refuted = c.if-not-draft_held.ensures.held in
+    subst (λ (v : Bool). Closes v h d c.args.marks.now (Err (record { draft = d; fault = NotHeld })) c.draft_held.new.marks) c.if-not-sizes_fit.ensures
+    ((λ m o. absurd (refuted m o)), (λ none. refl), c.if-not-draft_held.ensures.cleared)
 
-pub returns-then-not-sizes-fit : goal.returns-then-not-sizes-fit
-returns-then-not-sizes-fit c =
+pub returns-then-not-sizes_fit : goal.returns-then-not-sizes_fit
+returns-then-not-sizes_fit c =
     let h = tables c.args.exprs.now c.args.stmts.now c.args.decls.now in
     let d = c.args.draft in
-    subst (λ (v : Bool). Closes v h d c.args.marks.now (Err (record { draft = d; fault = Sizes })) c.args.marks.now) c.if-not-sizes-fit.ensures (refl, refl)
+    subst (λ (v : Bool). Closes v h d c.args.marks.now (Err (record { draft = d; fault = Sizes })) c.args.marks.now) c.if-not-sizes_fit.ensures (refl, refl)

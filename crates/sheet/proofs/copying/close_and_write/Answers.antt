@@ -7,8 +7,8 @@ pub returns-in-Ok : goal.returns-in-Ok
 returns-in-Ok c =
     let h = tables c.args.exprs.now c.args.stmts.now c.args.decls.now in
     record {
-      copied = close_copies h c.args.draft c.args.taken c.args.out.now c.args.marks.now c.close.new.marks _ c.requires c.in-Ok.whole c.in-Ok.ensures c.write-and-end.result c.write-and-end.new.out c.write-and-end.ensures.copied;
-      cleared = c.write-and-end.ensures.cleared ∙ ap (λ (n : ℕ). replicate n 0) c.close.auto.marks;
+      copied = close_copies h c.args.draft c.args.taken c.args.out.now c.args.marks.now c.close.new.marks _ c.requires c.in-Ok.whole c.in-Ok.ensures c.write_and_end.result c.write_and_end.new.out c.write_and_end.ensures.copied;
+      cleared = c.write_and_end.ensures.cleared ∙ ap (λ (n : ℕ). replicate n 0) c.close.auto.marks;
     }
 
 pub returns-in-Err : goal.returns-in-Err

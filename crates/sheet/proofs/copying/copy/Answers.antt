@@ -22,8 +22,8 @@ returns-in-Err-answer c =
       spelled = tt;
     }
 
-pub close-and-write-requires : goal.close-and-write-requires
-close-and-write-requires c =
+pub close_and_write-requires : goal.close_and_write-requires
+close_and_write-requires c =
     let h = tables c.args.exprs.now c.args.stmts.now c.args.decls.now in
     let h₁ = tables c.start.new.exprs c.start.new.stmts c.start.new.decls in
     let h₂ = tables c.feed-taken.new.exprs c.feed-taken.new.stmts c.feed-taken.new.decls in
@@ -40,6 +40,6 @@ returns-in-Ok-answer c =
     let h₂ = tables c.feed-taken.new.exprs c.feed-taken.new.stmts c.feed-taken.new.decls in
     let same : SameLengths h c.args.marks.now h₁ c.start.new.marks = (c.start.auto.exprs, c.start.auto.stmts, c.start.auto.decls, c.start.auto.marks) in
     record {
-      copied = fed_copies h h₁ h₂ c.args.marks.now c.start.new.marks c.feed-taken.new.marks c.args.bytes.now c.args.out.now c.in-Ok.draft c.feed-taken.result c.in-Ok.ensures same c.feed-taken.ensures.fed c.in-Ok-answer.is c.close-and-write.result c.close-and-write.new.out c.close-and-write.ensures.copied c.close-and-write.new.marks c.close-and-write.ensures.cleared c.feed-taken.auto.marks;
-      spelled = fed_spells h h₁ h₂ c.args.marks.now c.start.new.marks c.feed-taken.new.marks c.args.bytes.now c.args.out.now c.in-Ok.draft c.feed-taken.result c.in-Ok.ensures same c.feed-taken.ensures.fed c.in-Ok-answer.is c.close-and-write.result c.close-and-write.new.out c.close-and-write.ensures.copied;
+      copied = fed_copies h h₁ h₂ c.args.marks.now c.start.new.marks c.feed-taken.new.marks c.args.bytes.now c.args.out.now c.in-Ok.draft c.feed-taken.result c.in-Ok.ensures same c.feed-taken.ensures.fed c.in-Ok-answer.is c.close_and_write.result c.close_and_write.new.out c.close_and_write.ensures.copied c.close_and_write.new.marks c.close_and_write.ensures.cleared c.feed-taken.auto.marks;
+      spelled = fed_spells h h₁ h₂ c.args.marks.now c.start.new.marks c.feed-taken.new.marks c.args.bytes.now c.args.out.now c.in-Ok.draft c.feed-taken.result c.in-Ok.ensures same c.feed-taken.ensures.fed c.in-Ok-answer.is c.close_and_write.result c.close_and_write.new.out c.close_and_write.ensures.copied;
     }

@@ -7,45 +7,45 @@ use Rattle.records.proofs.Sizes.{owned_readable}
 use Rattle.sheet.proofs.Promises.{fitting_sizes, read_back, wrote, wrote_none}
 use Rattle.sheet.proofs.output.write.Goals as goal
 
-pub returns-then-not-sizes-fit : goal.returns-then-not-sizes-fit
-returns-then-not-sizes-fit c =
+pub returns-then-not-sizes_fit : goal.returns-then-not-sizes_fit
+returns-then-not-sizes_fit c =
     let h = tables c.args.exprs.now c.args.stmts.now c.args.decls.now in
     record {
-      written = subst (λ (v : Bool). WritesSheet v h c.args.whole c.args.marks.now c.args.out.now (record { whole = c.args.whole; answer = Err Sizes }) c.args.marks.now c.args.out.now) c.if-not-sizes-fit.ensures (refl, refl, refl);
+      written = subst (λ (v : Bool). WritesSheet v h c.args.whole c.args.marks.now c.args.out.now (record { whole = c.args.whole; answer = Err Sizes }) c.args.marks.now c.args.out.now) c.if-not-sizes_fit.ensures (refl, refl, refl);
       again = read_back h c.args.whole;
     }
 
-pub returns-then-not-whole-held : goal.returns-then-not-whole-held
-returns-then-not-whole-held c =
+pub returns-then-not-whole_held : goal.returns-then-not-whole_held
+returns-then-not-whole_held c =
     let h = tables c.args.exprs.now c.args.stmts.now c.args.decls.now in
-    let refuted = c.if-not-whole-held.ensures.held in
+    let refuted = c.if-not-whole_held.ensures.held in
     record {
-      written = subst (λ (v : Bool). WritesSheet v h c.args.whole c.args.marks.now c.args.out.now (record { whole = c.args.whole; answer = Err NotHeld }) c.whole-held.new.marks c.args.out.now) c.if-not-sizes-fit.ensures
-          ((λ body holds. absurd (refuted body holds)), (λ none. (refl, refl)), c.if-not-whole-held.ensures.cleared);
+      written = subst (λ (v : Bool). WritesSheet v h c.args.whole c.args.marks.now c.args.out.now (record { whole = c.args.whole; answer = Err NotHeld }) c.whole_held.new.marks c.args.out.now) c.if-not-sizes_fit.ensures
+          ((λ body holds. absurd (refuted body holds)), (λ none. (refl, refl)), c.if-not-whole_held.ensures.cleared);
       again = read_back h c.args.whole;
     }
 
-pub write-body-requires : goal.write-body-requires
-write-body-requires c =
-    let fit = fitting_sizes (length c.args.exprs.now) (length c.args.stmts.now) (length c.args.decls.now) (length c.args.marks.now) c.if-not-sizes-fit.ensures in
-    record { readable = owned_readable c.if-not-whole-held.ensures.held.1.owned; limited = record { exprs = fit.0; stmts = fit.1; decls = fit.2 } }
+pub write_body-requires : goal.write_body-requires
+write_body-requires c =
+    let fit = fitting_sizes (length c.args.exprs.now) (length c.args.stmts.now) (length c.args.decls.now) (length c.args.marks.now) c.if-not-sizes_fit.ensures in
+    record { readable = owned_readable c.if-not-whole_held.ensures.held.1.owned; limited = record { exprs = fit.0; stmts = fit.1; decls = fit.2 } }
 
 pub returns-in-Some : goal.returns-in-Some
 returns-in-Some c =
     let h = tables c.args.exprs.now c.args.stmts.now c.args.decls.now in
-    let held = c.if-not-whole-held.ensures.held in
+    let held = c.if-not-whole_held.ensures.held in
     record {
-      written = subst (λ (v : Bool). WritesSheet v h c.args.whole c.args.marks.now c.args.out.now (record { whole = c.args.whole; answer = Ok c.in-Some.count }) c.whole-held.new.marks c.write-body.new.out) c.if-not-sizes-fit.ensures
-          ((λ body o. wrote c.args.whole (body_bytes body) c.args.out.now c.write-body.new.out c.in-Some.count (c.in-Some.ensures body o.owned.held.0 o.sound)), (λ none. absurd (none held.0 held.1)), c.if-not-whole-held.ensures.cleared);
+      written = subst (λ (v : Bool). WritesSheet v h c.args.whole c.args.marks.now c.args.out.now (record { whole = c.args.whole; answer = Ok c.in-Some.count }) c.whole_held.new.marks c.write_body.new.out) c.if-not-sizes_fit.ensures
+          ((λ body o. wrote c.args.whole (body_bytes body) c.args.out.now c.write_body.new.out c.in-Some.count (c.in-Some.ensures body o.owned.held.0 o.sound)), (λ none. absurd (none held.0 held.1)), c.if-not-whole_held.ensures.cleared);
       again = read_back h c.args.whole;
     }
 
 pub returns-in-None : goal.returns-in-None
 returns-in-None c =
     let h = tables c.args.exprs.now c.args.stmts.now c.args.decls.now in
-    let held = c.if-not-whole-held.ensures.held in
+    let held = c.if-not-whole_held.ensures.held in
     record {
-      written = subst (λ (v : Bool). WritesSheet v h c.args.whole c.args.marks.now c.args.out.now (record { whole = c.args.whole; answer = Err ShortOutput }) c.whole-held.new.marks c.write-body.new.out) c.if-not-sizes-fit.ensures
-          ((λ body o. wrote_none c.args.whole (body_bytes body) c.args.out.now c.write-body.new.out (c.in-None.ensures body o.owned.held.0 o.sound)), (λ none. absurd (none held.0 held.1)), c.if-not-whole-held.ensures.cleared);
+      written = subst (λ (v : Bool). WritesSheet v h c.args.whole c.args.marks.now c.args.out.now (record { whole = c.args.whole; answer = Err ShortOutput }) c.whole_held.new.marks c.write_body.new.out) c.if-not-sizes_fit.ensures
+          ((λ body o. wrote_none c.args.whole (body_bytes body) c.args.out.now c.write_body.new.out (c.in-None.ensures body o.owned.held.0 o.sound)), (λ none. absurd (none held.0 held.1)), c.if-not-whole_held.ensures.cleared);
       again = read_back h c.args.whole;
     }
