@@ -10,22 +10,22 @@ loop-i-init c = reached_here has_negated_result c.args.exprs.now c.args.at
 
 pub returns-in-Not : goal.returns-in-Not
 returns-in-Not c =
-    reached_told has_negated_result c.args.exprs.now c.args.at c.loop-i.part c.loop-i.-i c.loop-i.invariant
-    (by_kind has_negated_result c.args.exprs.now c.loop-i.part c.expr-at-expr.result true c.expr-at-expr.ensures
+    reached_told has_negated_result c.args.exprs.now c.args.at c.loop-i.part c.loop-i._i c.loop-i.invariant
+    (by_kind has_negated_result c.args.exprs.now c.loop-i.part c.expr_at-expr.result true c.expr_at-expr.ensures
     (λ e k. not_negated_told e (sym c.in-Not.is ∙ k)))
 
-pub returns-in-default : goal.returns-in-default
-returns-in-default c =
-    reached_told has_negated_result c.args.exprs.now c.args.at c.loop-i.part c.loop-i.-i c.loop-i.invariant
-    (by_kind has_negated_result c.args.exprs.now c.loop-i.part c.expr-at-expr.result false c.expr-at-expr.ensures
-    (λ e k. others_negated e (λ z. c.in-default.not-Not (k ∙ z)) (λ z. c.in-default.not-Sequence (k ∙ z))))
+pub returns-in_default : goal.returns-in_default
+returns-in_default c =
+    reached_told has_negated_result c.args.exprs.now c.args.at c.loop-i.part c.loop-i._i c.loop-i.invariant
+    (by_kind has_negated_result c.args.exprs.now c.loop-i.part c.expr_at-expr.result false c.expr_at-expr.ensures
+    (λ e k. others_negated e (λ z. c.in_default.not-Not (k ∙ z)) (λ z. c.in_default.not-Sequence (k ∙ z))))
 
 pub loop-i-preserved : goal.loop-i-preserved
 loop-i-preserved c =
-    reached_next has_negated_result c.args.exprs.now c.args.at c.loop-i.part c.loop-i.-i c.loop-i.invariant
-    (into_last c.args.exprs.now c.loop-i.part c.last-of-row-part.result c.expr-at-expr.result c.expr-at-expr.ensures (sym c.in-Sequence.is)
-    c.last-of-row-part.ensures)
+    reached_next has_negated_result c.args.exprs.now c.args.at c.loop-i.part c.loop-i._i c.loop-i.invariant
+    (into_last c.args.exprs.now c.loop-i.part c.last_of_row-part.result c.expr_at-expr.result c.expr_at-expr.ensures (sym c.in-Sequence.is)
+    c.last_of_row-part.ensures)
 
 pub returns : goal.returns
 returns c =
-    reached_nothing has_negated_result c.args.exprs.now c.args.at c.loop-i.part c.loop-i.-i c.loop-i.invariant (omega arith)
+    reached_nothing has_negated_result c.args.exprs.now c.args.at c.loop-i.part c.loop-i._i c.loop-i.invariant (omega arith)

@@ -7,10 +7,10 @@ use Rattle.predicates.proofs.expressions.is_literal.Goals as goal
 
 pub returns-in-Number : goal.returns-in-Number
 returns-in-Number c =
-    by_kind is_literal c.args.exprs.now c.args.at c.expr-at.result true c.expr-at.ensures
+    by_kind is_literal c.args.exprs.now c.args.at c.expr_at.result true c.expr_at.ensures
     (λ e k. ⊎_elim (λ q. number_literal e q.0 (sym q.1 ∙ k)) (λ q. word_literal e q.0 (sym q.1 ∙ k)) c.in-Number.is)
 
-pub returns-in-default : goal.returns-in-default
-returns-in-default c =
-    by_kind is_literal c.args.exprs.now c.args.at c.expr-at.result false c.expr-at.ensures
-    (λ e k. not_literal e (λ b z. c.in-default.not-Number b (k ∙ z)) (λ b z. c.in-default.not-Word b (k ∙ z)))
+pub returns-in_default : goal.returns-in_default
+returns-in_default c =
+    by_kind is_literal c.args.exprs.now c.args.at c.expr_at.result false c.expr_at.ensures
+    (λ e k. not_literal e (λ b z. c.in_default.not-Number b (k ∙ z)) (λ b z. c.in_default.not-Word b (k ∙ z)))

@@ -11,22 +11,22 @@ loop-i-init c = none_passed any_cares_about_scope c.args.stmts.now (length c.arg
 pub returns-then-at : goal.returns-then-at
 returns-then-at c es ds xs s a n =
     none_left statement_cares_about_scope any_cares_about_scope refl (λ x xs. refl) c.args.stmts.now (length c.args.stmts.now) c.args.row
-    c.loop-i.at c.loop-i.-i c.loop-i.invariant c.if-at.true es ds xs s a n (omega arith)
+    c.loop-i.at c.loop-i._i c.loop-i.invariant c.if-at.true es ds xs s a n (omega arith)
 
-pub returns-then-statement-cares-about-scope : goal.returns-then-statement-cares-about-scope
-returns-then-statement-cares-about-scope c es ds xs s a n =
+pub returns-then-statement_cares_about_scope : goal.returns-then-statement_cares_about_scope
+returns-then-statement_cares_about_scope c es ds xs s a n =
     found_one statement_cares_about_scope any_cares_about_scope refl (λ x xs. refl) c.args.stmts.now (length c.args.stmts.now) c.args.row
-    c.loop-i.at c.loop-i.-i c.loop-i.invariant c.if-at.false
-    (λ es ds x w s a n l. sym c.if-statement-cares-about-scope.true ∙ c.statement-cares-about-scope.ensures es ds x w s a n) es ds xs s a n (omega arith)
+    c.loop-i.at c.loop-i._i c.loop-i.invariant c.if-at.false
+    (λ es ds x w s a n l. sym c.if-statement_cares_about_scope.true ∙ c.statement_cares_about_scope.ensures es ds x w s a n) es ds xs s a n (omega arith)
 
 pub loop-i-preserved : goal.loop-i-preserved
 loop-i-preserved c =
-    rw c.stmt-at-at.ensures
+    rw c.stmt_at-at.ensures
     (one_passed statement_cares_about_scope any_cares_about_scope refl (λ x xs. refl) c.args.stmts.now (length c.args.stmts.now) c.args.row
-    c.loop-i.at c.loop-i.-i c.loop-i.invariant c.if-at.false
-    (λ es ds x w s a n l. sym c.if-statement-cares-about-scope.false ∙ c.statement-cares-about-scope.ensures es ds x w s a n))
+    c.loop-i.at c.loop-i._i c.loop-i.invariant c.if-at.false
+    (λ es ds x w s a n l. sym c.if-statement_cares_about_scope.false ∙ c.statement_cares_about_scope.ensures es ds x w s a n))
 
 pub returns : goal.returns
 returns c es ds xs s a n =
     all_passed statement_cares_about_scope any_cares_about_scope refl (λ x xs. refl) c.args.stmts.now (length c.args.stmts.now) c.args.row
-    c.loop-i.at c.loop-i.-i c.loop-i.invariant (omega arith) es ds xs s a n (omega arith)
+    c.loop-i.at c.loop-i._i c.loop-i.invariant (omega arith) es ds xs s a n (omega arith)

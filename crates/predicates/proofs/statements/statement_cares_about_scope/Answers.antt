@@ -6,10 +6,10 @@ use Rattle.predicates.proofs.statements.statement_cares_about_scope.Goals as goa
 
 pub returns-in-Declaration : goal.returns-in-Declaration
 returns-in-Declaration c es ds x w s a n =
-    let k = told_stmt_kind (tables es c.args.stmts.now ds) c.args.at x w c.stmt-at.ensures a in
-    c.is-lexical.ensures ∙ lexical_told x c.in-Declaration.kind (sym c.in-Declaration.is ∙ k)
+    let k = told_stmt_kind (tables es c.args.stmts.now ds) c.args.at x w c.stmt_at.ensures a in
+    c.is_lexical.ensures ∙ lexical_told x c.in-Declaration.kind (sym c.in-Declaration.is ∙ k)
 
-pub returns-in-default : goal.returns-in-default
-returns-in-default c es ds x w s a n =
-    let k = told_stmt_kind (tables es c.args.stmts.now ds) c.args.at x w c.stmt-at.ensures a in
-    not_lexical_told x (λ d z. c.in-default.not-Declaration d (k ∙ z))
+pub returns-in_default : goal.returns-in_default
+returns-in_default c es ds x w s a n =
+    let k = told_stmt_kind (tables es c.args.stmts.now ds) c.args.at x w c.stmt_at.ensures a in
+    not_lexical_told x (λ d z. c.in_default.not-Declaration d (k ∙ z))
