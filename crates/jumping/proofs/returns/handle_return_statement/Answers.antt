@@ -8,12 +8,12 @@ use Rattle.jumping.proofs.returns.handle_return_statement.Goals as goal
 
 pub returns : goal.returns
 returns g c v r n loose rest o =
-    let first = c.merge-leading-into-declaration-merged in
-    let second = c.drop-undefined-argument-worked in
+    let first = c.merge_leading_into_declaration-merged in
+    let second = c.drop_undefined_argument-worked in
     let h : Heap = tables c.args.exprs.now c.args.stmts.now c.args.decls.now in
     let h₁ : Heap = tables first.new.exprs first.new.stmts first.new.decls in
     let h₂ : Heap = tables second.new.exprs second.new.stmts first.new.decls in
     let same : lengths h₁ ≡ lengths h = λ i. record { exprs = first.auto.exprs i; stmts = first.auto.stmts i; decls = first.auto.decls i } in
     let same₂ : lengths h₂ ≡ lengths h₁ = λ i. record { exprs = second.auto.exprs i; stmts = second.auto.stmts i; decls = (lengths h₁).decls } in
     return_handled c.args.sequences (g.H.Host.meaning c.args.host.now) (holder_of c.args.holder) v r (sym same) (sym same₂) (first.ensures v r)
-    (λ u x a b. second.ensures first.new.decls u x a b) (λ u x a. c.merge-returns.ensures first.new.decls u x a) n o
+    (λ u x a b. second.ensures first.new.decls u x a b) (λ u x a. c.merge_returns.ensures first.new.decls u x a) n o

@@ -10,6 +10,6 @@ pub returns-in-Body : goal.returns-in-Body
 returns-in-Body c ss ds v u s x y n =
     body_there c.args.a c.args.b s c.args.holder v u x y c.if-a-eq-NOWHERE.false c.if-b-ne-NOWHERE.false c.in-Body.is
 
-pub returns-in-default : goal.returns-in-default
-returns-in-default c ss ds v u s x y n =
-    other_there c.args.a c.args.b s c.args.holder v u x y c.if-a-eq-NOWHERE.false c.if-b-ne-NOWHERE.false c.in-default.not-Body
+pub returns-in_default : goal.returns-in_default
+returns-in_default c ss ds v u s x y n =
+    other_there c.args.a c.args.b s c.args.holder v u x y c.if-a-eq-NOWHERE.false c.if-b-ne-NOWHERE.false c.in_default.not-Body

@@ -7,9 +7,9 @@ use Rattle.jumping.proofs.returns.join_values.Goals as goal
 pub returns : goal.returns
 returns c ds t v u n loose rest o =
     let ss = c.args.stmts.now in
-    let first : lengths (tables c.value-or-void-0-x.new.exprs ss ds) ≡ lengths (tables c.args.exprs.now ss ds) =
-    λ i. record { exprs = c.value-or-void-0-x.auto.exprs i; stmts = (lengths (tables c.args.exprs.now ss ds)).stmts; decls = (lengths (tables c.args.exprs.now ss ds)).decls } in
-    let second : lengths (tables c.value-or-void-0-y.new.exprs ss ds) ≡ lengths (tables c.value-or-void-0-x.new.exprs ss ds) =
-    λ i. record { exprs = c.value-or-void-0-y.auto.exprs i; stmts = (lengths (tables c.args.exprs.now ss ds)).stmts; decls = (lengths (tables c.args.exprs.now ss ds)).decls } in
-    values_joined t v u n (sym first) (sym second) (c.value-or-void-0-x.ensures ss ds v) (c.value-or-void-0-y.ensures ss ds u)
-    (λ e₁ e₂ k. c.join-arguments.ensures ds t e₁ e₂ k) o
+    let first : lengths (tables c.value_or_void_0-x.new.exprs ss ds) ≡ lengths (tables c.args.exprs.now ss ds) =
+    λ i. record { exprs = c.value_or_void_0-x.auto.exprs i; stmts = (lengths (tables c.args.exprs.now ss ds)).stmts; decls = (lengths (tables c.args.exprs.now ss ds)).decls } in
+    let second : lengths (tables c.value_or_void_0-y.new.exprs ss ds) ≡ lengths (tables c.value_or_void_0-x.new.exprs ss ds) =
+    λ i. record { exprs = c.value_or_void_0-y.auto.exprs i; stmts = (lengths (tables c.args.exprs.now ss ds)).stmts; decls = (lengths (tables c.args.exprs.now ss ds)).decls } in
+    values_joined t v u n (sym first) (sym second) (c.value_or_void_0-x.ensures ss ds v) (c.value_or_void_0-y.ensures ss ds u)
+    (λ e₁ e₂ k. c.join_arguments.ensures ds t e₁ e₂ k) o

@@ -6,4 +6,4 @@ returns-then-value-eq-NOWHERE c v r loose rest o = leading_none v r c.if-value-e
 
 pub returns : goal.returns
 returns c v r loose rest o =
-    leading_some v r c.if-value-eq-NOWHERE.false (λ e. c.merge-leading-assignments-to-declaration.ensures e r) o
+    leading_some v r c.if-value-eq-NOWHERE.false (λ e. c.merge_leading_assignments_to_declaration.ensures e r) o

@@ -10,4 +10,4 @@ abbrev pub invariant-loop-i : goal.invariant-loop-i
 invariant-loop-i l =
     (ds : List DeclRecord)
     → Loops (returns (holder_of l.holder)) (tables l.initial.exprs l.initial.stmts ds) l.initial.pools (tables l.exprs l.stmts ds) l.pools
-    l.at l.value l.results l.worked l.-i
+    l.at l.value l.results l.worked l._i

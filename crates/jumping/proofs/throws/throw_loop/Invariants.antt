@@ -9,4 +9,4 @@ abbrev pub invariant-loop-i : goal.invariant-loop-i
 invariant-loop-i l =
     (ds : List DeclRecord)
     → Loops throws (tables l.initial.exprs l.initial.stmts ds) l.initial.pools (tables l.exprs l.stmts ds) l.pools l.at l.value l.results
-    l.worked l.-i
+    l.worked l._i

@@ -5,6 +5,6 @@ use Rattle.merging.proofs.declaration.handle_variable_declaration.Goals as goal
 
 pub returns : goal.returns
 returns c ds r n loose rest o =
-    handled_declaration c.args.join-vars c.args.kind ds r
-    (c.merge-first-value-before.ensures ds r (stmt_at c.args.at ∷ loose) rest o)
-    (λ es r₁. c.join-declarations.ensures c.merge-first-value-before.new.exprs es r₁)
+    handled_declaration c.args.join_vars c.args.kind ds r
+    (c.merge_first_value-before.ensures ds r (stmt_at c.args.at ∷ loose) rest o)
+    (λ es r₁. c.join_declarations.ensures c.merge_first_value-before.new.exprs es r₁)

@@ -7,13 +7,13 @@ use Rattle.merging.proofs.declarators.merge_assignment_to_declaration.Goals as g
 
 pub returns-then-at : goal.returns-then-at
 returns-then-at c ss p ds e loose rest o =
-    let l = c.is-literal-value-literal.ensures ss c.args.decls.now e end o.short o.held.1.0 (expr_fits e end (pick 1 o)) in
-    let f = c.find-declarator-at.ensures c.args.exprs.now ss ds o.short o.held.0 (declarators_fit ds o) in
-    none_found ds e o c.args.kind (is_literal_value e) c.args.name c.find-declarator-at.result (rw l at f) c.if-at.true
+    let l = c.is_literal_value-literal.ensures ss c.args.decls.now e end o.short o.held.1.0 (expr_fits e end (pick 1 o)) in
+    let f = c.find_declarator-at.ensures c.args.exprs.now ss ds o.short o.held.0 (declarators_fit ds o) in
+    none_found ds e o c.args.kind (is_literal_value e) c.args.name c.find_declarator-at.result (rw l at f) c.if-at.true
 
 pub returns : goal.returns
 returns c ss p ds e loose rest o =
-    let l = c.is-literal-value-literal.ensures ss c.args.decls.now e end o.short o.held.1.0 (expr_fits e end (pick 1 o)) in
-    let f = c.find-declarator-at.ensures c.args.exprs.now ss ds o.short o.held.0 (declarators_fit ds o) in
-    rw (c.set.ensures, c.decl-at-decl.ensures)
-    (one_found ds e o c.args.kind (is_literal_value e) c.args.name c.find-declarator-at.result (rw l at f) c.if-at.false)
+    let l = c.is_literal_value-literal.ensures ss c.args.decls.now e end o.short o.held.1.0 (expr_fits e end (pick 1 o)) in
+    let f = c.find_declarator-at.ensures c.args.exprs.now ss ds o.short o.held.0 (declarators_fit ds o) in
+    rw (c.set.ensures, c.decl_at-decl.ensures)
+    (one_found ds e o c.args.kind (is_literal_value e) c.args.name c.find_declarator-at.result (rw l at f) c.if-at.false)

@@ -10,13 +10,13 @@ returns-then-not-sequences c ds e r n loose rest o = rw c.if-not-sequences.true 
 
 pub returns-in-Expression : goal.returns-in-Expression
 returns-in-Expression c ds e r n loose rest o =
-    let q = c.stmt-at-last.ensures in
+    let q = c.stmt_at-last.ensures in
     rw (c.if-not-sequences.false, ap (λ (x : StmtRecord). x.next) q)
     (last_merged e r (sym c.in-Expression.is ∙ ap (λ (x : StmtRecord). x.kind) q)
     (λ roots o₁. give_stmt_of c.args.results c.give.new.table c.give.new.pool c.give.ensures o₁)
-    (λ x y. rw q at (c.join-sequence-joined.ensures c.give.new.table ds x y n)) o)
+    (λ x y. rw q at (c.join_sequence-joined.ensures c.give.new.table ds x y n)) o)
 
 pub returns : goal.returns
 returns c ds e r n loose rest o =
     rw c.if-not-sequences.false
-    (none_merged e r (λ z. c.in-default.not-Expression (ap (λ (x : StmtRecord). x.kind) c.stmt-at-last.ensures ∙ z)) o)
+    (none_merged e r (λ z. c.in_default.not-Expression (ap (λ (x : StmtRecord). x.kind) c.stmt_at-last.ensures ∙ z)) o)

@@ -12,9 +12,9 @@ returns-then-items-eq-NOWHERE c ss ds xs loose rest o =
 pub returns-then-item : goal.returns-then-item
 returns-then-item c ss ds xs loose rest o =
     one_left xs o (λ roots o₁. give_expr_of c.args.at c.give-then-item.new.table c.give-then-item.new.pool c.give-then-item.ensures o₁)
-    (ap (λ (x : ExprRecord). x.next) (sym c.expr-at-item.ensures) ∙ c.if-item.true)
+    (ap (λ (x : ExprRecord). x.next) (sym c.expr_at-item.ensures) ∙ c.if-item.true)
 
 pub returns : goal.returns
 returns c ss ds xs loose rest o =
     rw c.set.ensures
-    (many_left xs c.if-items-eq-NOWHERE.false (λ z. c.if-item.false (ap (λ (x : ExprRecord). x.next) c.expr-at-item.ensures ∙ z)) o)
+    (many_left xs c.if-items-eq-NOWHERE.false (λ z. c.if-item.false (ap (λ (x : ExprRecord). x.next) c.expr_at-item.ensures ∙ z)) o)

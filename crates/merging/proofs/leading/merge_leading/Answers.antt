@@ -5,13 +5,13 @@ use Rattle.merging.proofs.leading.merge_leading.Goals as goal
 
 pub returns-in-Sequence : goal.returns-in-Sequence
 returns-in-Sequence c ss e ds loose rest o =
-    let q = c.expr-at-expr.ensures in
+    let q = c.expr_at-expr.ensures in
     leading_sequence c.args.discarded c.args.kind e ds (sym c.in-Sequence.is ∙ ap (λ (x : ExprRecord). x.kind) q)
-    (λ xs ds₁. rw q at (c.merge-leading-items-items.ensures ss xs ds₁))
-    (λ xs. c.close-sequence.ensures ss c.merge-leading-items-items.new.decls xs) o
+    (λ xs ds₁. rw q at (c.merge_leading_items-items.ensures ss xs ds₁))
+    (λ xs. c.close_sequence.ensures ss c.merge_leading_items-items.new.decls xs) o
 
 pub returns : goal.returns
 returns c ss e ds loose rest o =
     leading_lone c.args.discarded c.args.kind e ds
-    (λ z. c.in-default.not-Sequence (ap (λ (x : ExprRecord). x.kind) c.expr-at-expr.ensures ∙ z))
-    (λ xs ds₁. c.merge-leading-items.ensures ss xs ds₁) o
+    (λ z. c.in_default.not-Sequence (ap (λ (x : ExprRecord). x.kind) c.expr_at-expr.ensures ∙ z))
+    (λ xs ds₁. c.merge_leading_items.ensures ss xs ds₁) o

@@ -6,6 +6,6 @@ returns-then-row-eq-NOWHERE c es ss p ds xs loose rest o = appended_alone ds xs 
 
 pub returns : goal.returns
 returns c es ss p ds xs loose rest o =
-    rw (c.set.ensures, c.decl-at-decl.ensures)
-    (appended c.last-of-names-last.result ds xs c.if-row-eq-NOWHERE.false
-    (λ n v ds₁ s a l. c.last-of-names-last.ensures es ss n v ds₁ s a l) o)
+    rw (c.set.ensures, c.decl_at-decl.ensures)
+    (appended c.last_of_names-last.result ds xs c.if-row-eq-NOWHERE.false
+    (λ n v ds₁ s a l. c.last_of_names-last.ensures es ss n v ds₁ s a l) o)

@@ -7,10 +7,10 @@ use Rattle.merging.proofs.statement.handle_expression_statement.Goals as goal
 pub returns : goal.returns
 returns c e r n loose rest o =
     let s = n.exprs in
-    let a = c.merge-last-expression-into-sequence-merged.new in
-    let b = c.merge-leading-assignments-to-declaration-worked.new in
+    let a = c.merge_last_expression_into_sequence-merged.new in
+    let b = c.merge_leading_assignments_to_declaration-worked.new in
     handled {h = tables c.args.exprs.now c.args.stmts.now c.args.decls.now} {h₁ = tables a.exprs a.stmts c.args.decls.now}
     {h₂ = tables b.exprs a.stmts b.decls} c.args.sequences e r
-    (c.merge-last-expression-into-sequence-merged.ensures c.args.decls.now e r (omega arith) (stmt_at c.args.at ∷ loose) rest o)
-    (λ e₁ r₁. c.merge-leading-assignments-to-declaration-worked.ensures e₁ r₁)
-    (λ v r₂. c.push-worked.ensures b.exprs b.decls v r₂)
+    (c.merge_last_expression_into_sequence-merged.ensures c.args.decls.now e r (omega arith) (stmt_at c.args.at ∷ loose) rest o)
+    (λ e₁ r₁. c.merge_leading_assignments_to_declaration-worked.ensures e₁ r₁)
+    (λ v r₂. c.push_worked.ensures b.exprs b.decls v r₂)
