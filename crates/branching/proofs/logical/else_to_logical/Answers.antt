@@ -1,4 +1,4 @@
 use Rattle.branching.proofs.logical.else_to_logical.Goals as goal
 
 pub returns : goal.returns
-returns c = c.to-logical.ensures
+returns c = c.to_logical.ensures

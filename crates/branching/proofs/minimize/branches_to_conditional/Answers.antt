@@ -17,8 +17,8 @@ returns c ds t x y n loose rest o =
     (then_move
     (then_move
     (c.detach-other.ensures es ds p (expression x) (stmt_row (expression y) end) loose (test ∷ rest) (pick 1 o))
-    (λ o₁. c.open-expression-a.ensures es ds p.exprs p.decls x loose
+    (λ o₁. c.open_expression-a.ensures es ds p.exprs p.decls x loose
     ((stmt_at c.detach-other.result, stmt_row (expression y) end) ∷ test ∷ rest) o₁))
-    (λ o₂. c.open-expression-b.ensures es ds p.exprs p.decls y loose
-    ((expr_at c.open-expression-a.result, expr_row x end) ∷ test ∷ rest) (pick 1 o₂)))
-    (λ o₃. c.minimize-conditional.ensures c.open-expression-b.new.stmts ds t x y end n loose rest (arrange (2 ∷ 1 ∷ []) o₃))
+    (λ o₂. c.open_expression-b.ensures es ds p.exprs p.decls y loose
+    ((expr_at c.open_expression-a.result, expr_row x end) ∷ test ∷ rest) (pick 1 o₂)))
+    (λ o₃. c.minimize_conditional.ensures c.open_expression-b.new.stmts ds t x y end n loose rest (arrange (2 ∷ 1 ∷ []) o₃))

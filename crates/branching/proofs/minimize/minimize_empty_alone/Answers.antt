@@ -9,15 +9,15 @@ use Rattle.branching.proofs.Rules.{first_of, second_of}
 use Rattle.branching.proofs.Steps.{moved_told, then_use}
 use Rattle.branching.proofs.minimize.minimize_empty_alone.Goals as goal
 
-pub returns-then-is-harmless : goal.returns-then-is-harmless
-returns-then-is-harmless g c ds t loose rest o =
-    let b = c.is-harmless.ensures c.args.stmts.now ds t end o.short o.held.0 (expr_fits t end o) in
-    moved_told (ap (λ (v : Stmt). stmt_row v end) (first_of empty (expression t) (sym b ∙ c.if-is-harmless.true)))
-    (then_use (c.drop-expr-row.ensures c.args.stmts.now ds (expr_row t end) (stmt_at c.args.at ∷ loose) rest o)
-    (λ o₁. c.write-empty.ensures c.drop-expr-row.new.exprs ds c.drop-expr-row.new.pools loose rest o₁))
+pub returns-then-is_harmless : goal.returns-then-is_harmless
+returns-then-is_harmless g c ds t loose rest o =
+    let b = c.is_harmless.ensures c.args.stmts.now ds t end o.short o.held.0 (expr_fits t end o) in
+    moved_told (ap (λ (v : Stmt). stmt_row v end) (first_of empty (expression t) (sym b ∙ c.if-is_harmless.true)))
+    (then_use (c.drop_expr_row.ensures c.args.stmts.now ds (expr_row t end) (stmt_at c.args.at ∷ loose) rest o)
+    (λ o₁. c.write_empty.ensures c.drop_expr_row.new.exprs ds c.drop_expr_row.new.pools loose rest o₁))
 
 pub returns : goal.returns
 returns g c ds t loose rest o =
-    let b = c.is-harmless.ensures c.args.stmts.now ds t end o.short o.held.0 (expr_fits t end o) in
-    moved_told (ap (λ (v : Stmt). stmt_row v end) (second_of empty (expression t) (sym b ∙ c.if-is-harmless.false)))
-    (c.write-expression.ensures c.args.exprs.now ds c.args.pools.now t loose rest o)
+    let b = c.is_harmless.ensures c.args.stmts.now ds t end o.short o.held.0 (expr_fits t end o) in
+    moved_told (ap (λ (v : Stmt). stmt_row v end) (second_of empty (expression t) (sym b ∙ c.if-is_harmless.false)))
+    (c.write_expression.ensures c.args.exprs.now ds c.args.pools.now t loose rest o)

@@ -10,6 +10,6 @@ use Rattle.branching.proofs.minimize.minimize_empty_if.Goals as goal
 
 pub returns : goal.returns
 returns g c ds t x a z n loose rest o =
-    let o₁ = opens_nothing c.stmt-at-stmt.result c.stmt-at-stmt.ensures (empty? x) (alternate_row a) z (pick 1 o) in
-    then_use (c.minimize-without-consequent.ensures ds t a n (stmt_at c.args.branches ∷ loose) rest (pick 1 (swap_loose o₁)))
+    let o₁ = opens_nothing c.stmt_at-stmt.result c.stmt_at-stmt.ensures (empty? x) (alternate_row a) z (pick 1 o) in
+    then_use (c.minimize_without_consequent.ensures ds t a n (stmt_at c.args.branches ∷ loose) rest (pick 1 (swap_loose o₁)))
     (λ o₂. give_stmt_of c.args.branches c.give.new.table c.give.new.pool c.give.ensures o₂)

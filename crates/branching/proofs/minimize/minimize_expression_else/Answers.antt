@@ -16,20 +16,20 @@ use Rattle.branching.proofs.minimize.minimize_expression_else.Goals as goal
 pub returns-in-Expression : goal.returns-in-Expression
 returns-in-Expression c ds t e x n loose rest o =
     let h = tables c.args.exprs.now c.args.stmts.now ds in
-    let b = c.branch-of.ensures c.args.exprs.now ds x end o.short
-    (behind_read h c.args.branches c.stmt-at-stmt.result c.stmt-at-stmt.ensures (expression e) (stmt_row x end) o.held.1.0) in
+    let b = c.branch_of.ensures c.args.exprs.now ds x end o.short
+    (behind_read h c.args.branches c.stmt_at-stmt.result c.stmt_at-stmt.ensures (expression e) (stmt_row x end) o.held.1.0) in
     let s = of_kind (branch? x) (sym c.in-Expression.is ∙ b) in
     moved_told (ap (λ (v : Stmt). stmt_row (minimize_if_else t (is_expression e) (branch? v)) end) (sym s.1))
     (then_use
-    (c.branches-to-conditional.ensures ds t e s.0 n (stmt_at c.args.at ∷ loose) rest
+    (c.branches_to_conditional.ensures ds t e s.0 n (stmt_at c.args.at ∷ loose) rest
     (pick 1 (told (ap (λ (v : Stmt). stmt_row (expression e) (stmt_row v end)) s.1) (pick 1 o))))
-    (λ o₁. c.write-expression.ensures c.branches-to-conditional.new.exprs ds c.branches-to-conditional.new.pools
+    (λ o₁. c.write_expression.ensures c.branches_to_conditional.new.exprs ds c.branches_to_conditional.new.pools
     (minimize_conditional t e s.0) loose rest o₁))
 
 pub returns : goal.returns
 returns c ds t e x n loose rest o =
     let h = tables c.args.exprs.now c.args.stmts.now ds in
-    let b = c.branch-of.ensures c.args.exprs.now ds x end o.short
-    (behind_read h c.args.branches c.stmt-at-stmt.result c.stmt-at-stmt.ensures (expression e) (stmt_row x end) o.held.1.0) in
-    moved_told (ap (λ (v : Stmt). stmt_row v end) (else_as_it_is t e (branch? x) (λ z. c.in-default.not-Expression (b ∙ z))))
-    (c.write-if.ensures c.args.exprs.now ds c.args.pools.now t (expression e) (alternate x) loose rest o)
+    let b = c.branch_of.ensures c.args.exprs.now ds x end o.short
+    (behind_read h c.args.branches c.stmt_at-stmt.result c.stmt_at-stmt.ensures (expression e) (stmt_row x end) o.held.1.0) in
+    moved_told (ap (λ (v : Stmt). stmt_row v end) (else_as_it_is t e (branch? x) (λ z. c.in_default.not-Expression (b ∙ z))))
+    (c.write_if.ensures c.args.exprs.now ds c.args.pools.now t (expression e) (alternate x) loose rest o)

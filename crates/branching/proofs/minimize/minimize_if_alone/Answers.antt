@@ -19,41 +19,41 @@ use Rattle.branching.proofs.minimize.minimize_if_alone.Goals as goal
 pub returns-in-Expression : goal.returns-in-Expression
 returns-in-Expression c ds t x n loose rest o =
     let p = c.args.pools.now in
-    let b = c.branch-of.ensures c.args.exprs.now ds x end o.short o.held.1.0 in
+    let b = c.branch_of.ensures c.args.exprs.now ds x end o.short o.held.1.0 in
     let s = of_kind (branch? x) (sym c.in-Expression.is ∙ b) in
     moved_told (ap (λ (v : Stmt). stmt_row (minimize_if_alone t (branch? v)) end) (sym s.1))
     (then_use
     (then_move
-    (c.open-expression-expr.ensures c.args.exprs.now ds p.exprs p.decls s.0 (stmt_at c.args.at ∷ loose)
+    (c.open_expression-expr.ensures c.args.exprs.now ds p.exprs p.decls s.0 (stmt_at c.args.at ∷ loose)
     ((expr_at c.args.test, expr_row t end) ∷ rest) (told (ap (λ (v : Stmt). stmt_row v end) s.1) (pick 1 o)))
-    (λ o₁. c.if-to-logical.ensures c.open-expression-expr.new.stmts ds t s.0 n.exprs (stmt_at c.args.at ∷ loose) rest (pick 1 o₁)))
-    (λ o₂. c.write-expression.ensures c.if-to-logical.new.exprs ds c.if-to-logical.new.pools (if_to_logical t s.0) loose rest o₂))
+    (λ o₁. c.if_to_logical.ensures c.open_expression-expr.new.stmts ds t s.0 n.exprs (stmt_at c.args.at ∷ loose) rest (pick 1 o₁)))
+    (λ o₂. c.write_expression.ensures c.if_to_logical.new.exprs ds c.if_to_logical.new.pools (if_to_logical t s.0) loose rest o₂))
 
 pub returns-in-LoneIf : goal.returns-in-LoneIf
 returns-in-LoneIf c ds t x n loose rest o =
-    let b = c.branch-of.ensures c.args.exprs.now ds x end o.short o.held.1.0 in
+    let b = c.branch_of.ensures c.args.exprs.now ds x end o.short o.held.1.0 in
     let s = of_kind (branch? x) (sym c.in-LoneIf.is ∙ b) in
     let m = n.exprs in
     moved_told (ap (λ (v : Stmt). stmt_row (minimize_if_alone t (branch? v)) end) (sym s.2))
     (then_use
-    (c.merge-inner-if-body.ensures ds t s.0 s.1 (enough c.args.pools.now 1 1 (omega arith) n.stmts) (stmt_at c.args.at ∷ loose) rest
+    (c.merge_inner_if-body.ensures ds t s.0 s.1 (enough c.args.pools.now 1 1 (omega arith) n.stmts) (stmt_at c.args.at ∷ loose) rest
     (pick 1 (told (ap (λ (v : Stmt). stmt_row v end) s.2) (pick 1 o))))
-    (λ o₁. c.write-if.ensures c.merge-inner-if-body.new.exprs ds c.merge-inner-if-body.new.pools
+    (λ o₁. c.write_if.ensures c.merge_inner_if-body.new.exprs ds c.merge_inner_if-body.new.pools
     (join_with_left_associative_op And t s.0) (wrap_to_avoid_ambiguous_else (branch? s.1)) no_alternate loose rest o₁))
 
 pub returns-in-FullIf : goal.returns-in-FullIf
 returns-in-FullIf c ds t x n loose rest o =
     let p = c.args.pools.now in
-    let p₁ : Pools = record { exprs = p.exprs; stmts = c.put-in-braces-braces.new.spares; decls = p.decls } in
-    let b = c.branch-of.ensures c.args.exprs.now ds x end o.short o.held.1.0 in
+    let p₁ : Pools = record { exprs = p.exprs; stmts = c.put_in_braces-braces.new.spares; decls = p.decls } in
+    let b = c.branch_of.ensures c.args.exprs.now ds x end o.short o.held.1.0 in
     moved_told (ap (λ (v : Stmt). stmt_row v end) (alone_in_braces t x (sym c.in-FullIf.is ∙ b)))
     (then_use
-    (c.put-in-braces-braces.ensures c.args.exprs.now ds p.exprs p.decls x end n.stmts (stmt_at c.args.at ∷ loose)
+    (c.put_in_braces-braces.ensures c.args.exprs.now ds p.exprs p.decls x end n.stmts (stmt_at c.args.at ∷ loose)
     ((expr_at c.args.test, expr_row t end) ∷ rest) (pick 1 o))
-    (λ o₁. c.write-if-in-FullIf.ensures c.args.exprs.now ds p₁ t (block (stmt_then x no_stmts)) no_alternate loose rest (pick 1 o₁)))
+    (λ o₁. c.write_if-in-FullIf.ensures c.args.exprs.now ds p₁ t (block (stmt_then x no_stmts)) no_alternate loose rest (pick 1 o₁)))
 
 pub returns-in-Other : goal.returns-in-Other
 returns-in-Other c ds t x n loose rest o =
-    let b = c.branch-of.ensures c.args.exprs.now ds x end o.short o.held.1.0 in
+    let b = c.branch_of.ensures c.args.exprs.now ds x end o.short o.held.1.0 in
     moved_told (ap (λ (v : Stmt). stmt_row v end) (alone_as_it_is t (branch? x) (sym c.in-Other.is ∙ b)))
-    (c.write-if-in-Other.ensures c.args.exprs.now ds c.args.pools.now t x no_alternate loose rest o)
+    (c.write_if-in-Other.ensures c.args.exprs.now ds c.args.pools.now t x no_alternate loose rest o)

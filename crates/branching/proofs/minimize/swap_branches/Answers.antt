@@ -13,28 +13,28 @@ use Rattle.branching.proofs.Rules.{in_order, swapped}
 use Rattle.branching.proofs.Steps.{moved_told, then_use, told}
 use Rattle.branching.proofs.minimize.swap_branches.Goals as goal
 
-pub returns-then-can-swap : goal.returns-then-can-swap
-returns-then-can-swap c ds t x y n loose rest o =
+pub returns-then-can_swap : goal.returns-then-can_swap
+returns-then-can_swap c ds t x y n loose rest o =
     let p = c.args.pools.now in
-    let p₁ : Pools = record { exprs = c.open-not-expr.new.spares; stmts = p.stmts; decls = p.decls } in
-    let b = c.can-swap.ensures ds t end x y end o.short o.held.0 o.held.1.0 in
-    let s = swapped (not? t) x (branch? y) (sym b ∙ c.if-can-swap.true) in
+    let p₁ : Pools = record { exprs = c.open_not-expr.new.spares; stmts = p.stmts; decls = p.decls } in
+    let b = c.can_swap.ensures ds t end x y end o.short o.held.0 o.held.1.0 in
+    let s = swapped (not? t) x (branch? y) (sym b ∙ c.if-can_swap.true) in
     moved_told (ap (λ (v : Stmt). stmt_row v end) s.2)
     (then_use
     (then_move
-    (c.open-not-expr.ensures c.args.stmts.now ds p.stmts p.decls s.0 (stmt_at c.args.at ∷ loose)
+    (c.open_not-expr.ensures c.args.stmts.now ds p.stmts p.decls s.0 (stmt_at c.args.at ∷ loose)
     ((stmt_at c.args.branches, stmt_row x (stmt_row y end)) ∷ rest) (told (ap (λ (v : Expr). expr_row v end) s.1) o))
-    (λ o₁. c.exchange-swapped.ensures c.open-not-expr.new.exprs ds p₁ x y (stmt_at c.args.at ∷ loose)
-    ((expr_at c.open-not-expr.result, expr_row s.0 end) ∷ rest) (pick 1 o₁)))
-    (λ o₂. c.write-if.ensures c.open-not-expr.new.exprs ds p₁ s.0 y (alternate x) loose rest (pick 1 o₂)))
+    (λ o₁. c.exchange-swapped.ensures c.open_not-expr.new.exprs ds p₁ x y (stmt_at c.args.at ∷ loose)
+    ((expr_at c.open_not-expr.result, expr_row s.0 end) ∷ rest) (pick 1 o₁)))
+    (λ o₂. c.write_if.ensures c.open_not-expr.new.exprs ds p₁ s.0 y (alternate x) loose rest (pick 1 o₂)))
 
 pub returns : goal.returns
 returns c ds t x y n loose rest o =
     let p = c.args.pools.now in
-    let p₁ : Pools = record { exprs = p.exprs; stmts = c.wrap-to-avoid-ambiguous-else-wrapped.new.spares; decls = p.decls } in
-    let b = c.can-swap.ensures ds t end x y end o.short o.held.0 o.held.1.0 in
-    moved_told (ap (λ (v : Stmt). stmt_row v end) (in_order (not? t) x (branch? y) (sym b ∙ c.if-can-swap.false)))
+    let p₁ : Pools = record { exprs = p.exprs; stmts = c.wrap_to_avoid_ambiguous_else-wrapped.new.spares; decls = p.decls } in
+    let b = c.can_swap.ensures ds t end x y end o.short o.held.0 o.held.1.0 in
+    moved_told (ap (λ (v : Stmt). stmt_row v end) (in_order (not? t) x (branch? y) (sym b ∙ c.if-can_swap.false)))
     (then_use
-    (c.wrap-to-avoid-ambiguous-else-wrapped.ensures c.args.exprs.now ds p.exprs p.decls x (stmt_row y end) n.stmts
+    (c.wrap_to_avoid_ambiguous_else-wrapped.ensures c.args.exprs.now ds p.exprs p.decls x (stmt_row y end) n.stmts
     (stmt_at c.args.at ∷ loose) ((expr_at c.args.test, expr_row t end) ∷ rest) (pick 1 o))
-    (λ o₁. c.write-if-2.ensures c.args.exprs.now ds p₁ t (wrap_to_avoid_ambiguous_else (branch? x)) (alternate y) loose rest (pick 1 o₁)))
+    (λ o₁. c.write_if-2.ensures c.args.exprs.now ds p₁ t (wrap_to_avoid_ambiguous_else (branch? x)) (alternate y) loose rest (pick 1 o₁)))

@@ -9,11 +9,11 @@ use Rattle.branching.proofs.statements.wrap_to_avoid_ambiguous_else.Goals as goa
 
 pub returns-in-FullIf : goal.returns-in-FullIf
 returns-in-FullIf c es ds a d x w n loose rest o =
-    let b = c.branch-of.ensures es ds x w o.short o.held.0 in
+    let b = c.branch_of.ensures es ds x w o.short o.held.0 in
     moved_told (ap (λ (v : Stmt). stmt_row v w) (wrapped x (sym c.in-FullIf.is ∙ b)))
-    (c.put-in-braces.ensures es ds a d x w n loose rest o)
+    (c.put_in_braces.ensures es ds a d x w n loose rest o)
 
 pub returns : goal.returns
 returns c es ds a d x w n loose rest o =
-    let b = c.branch-of.ensures es ds x w o.short o.held.0 in
-    moved_told (ap (λ (v : Stmt). stmt_row v w) (not_wrapped (branch? x) (λ z. c.in-default.not-FullIf (b ∙ z)))) (stays o)
+    let b = c.branch_of.ensures es ds x w o.short o.held.0 in
+    moved_told (ap (λ (v : Stmt). stmt_row v w) (not_wrapped (branch? x) (λ z. c.in_default.not-FullIf (b ∙ z)))) (stays o)

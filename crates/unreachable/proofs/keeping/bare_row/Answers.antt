@@ -8,9 +8,9 @@ loop-left-init c = none_bare c.args.decls.now c.args.pools.now c.args.noted.now
 
 pub loop-left-preserved : goal.loop-left-preserved
 loop-left-preserved c =
-    one_bare c.args.decls.now c.loop-left.decls c.push-bare-declarator-row.new.decls c.args.pools.now c.loop-left.pools
-    c.push-bare-declarator-row.new.pools c.args.noted.now c.loop-left.row c.push-bare-declarator-row.result c.loop-left.left
-    (omega arith) c.push-bare-declarator-row.auto.decls c.loop-left.invariant c.push-bare-declarator-row.ensures
+    one_bare c.args.decls.now c.loop-left.decls c.push_bare_declarator-row.new.decls c.args.pools.now c.loop-left.pools
+    c.push_bare_declarator-row.new.pools c.args.noted.now c.loop-left.row c.push_bare_declarator-row.result c.loop-left.left
+    (omega arith) c.push_bare_declarator-row.auto.decls c.loop-left.invariant c.push_bare_declarator-row.ensures
 
 pub returns-else-left-le256 : goal.returns-else-left-le256
 returns-else-left-le256 c es ss l q s loose rest o =

@@ -11,12 +11,12 @@ use Rattle.unreachable.proofs.keeping.keep_declarations.Goals as goal
 
 pub returns : goal.returns
 returns c xs r loose rest o =
-    let noted : Notes c.note-vars.new.noted (noted_of xs) =
-    subst (λ (ns : List ℕ). Notes c.note-vars.new.noted (note_hoisted_names ns [])) (vars_stmts xs)
-    (c.note-vars.ensures c.args.exprs.now (stmts_row xs) o.short o.held.0 (statements_fit o) (declarators_fit o) [] none_noted) in
-    let k = c.sift-row-kept.auto in
+    let noted : Notes c.note_vars.new.noted (noted_of xs) =
+    subst (λ (ns : List ℕ). Notes c.note_vars.new.noted (note_hoisted_names ns [])) (vars_stmts xs)
+    (c.note_vars.ensures c.args.exprs.now (stmts_row xs) o.short o.held.0 (statements_fit o) (declarators_fit o) [] none_noted) in
+    let k = c.sift_row-kept.auto in
     names_kept (tables c.args.exprs.now c.args.stmts.now c.args.decls.now)
-    (tables c.sift-row-kept.new.exprs c.sift-row-kept.new.stmts c.sift-row-kept.new.decls)
-    (tables c.sift-row-kept.new.exprs c.push-noted.new.stmts c.push-noted.new.decls) xs r k.exprs k.stmts k.decls o
-    (c.sift-row-kept.ensures xs r loose rest o)
-    (λ e. c.push-noted.ensures c.sift-row-kept.new.exprs (noted_of xs) (push_all (lexical_declarations xs) r) noted e.decls e.stmts)
+    (tables c.sift_row-kept.new.exprs c.sift_row-kept.new.stmts c.sift_row-kept.new.decls)
+    (tables c.sift_row-kept.new.exprs c.push_noted.new.stmts c.push_noted.new.decls) xs r k.exprs k.stmts k.decls o
+    (c.sift_row-kept.ensures xs r loose rest o)
+    (λ e. c.push_noted.ensures c.sift_row-kept.new.exprs (noted_of xs) (push_all (lexical_declarations xs) r) noted e.decls e.stmts)

@@ -12,5 +12,5 @@ pub returns : goal.returns
 returns c es l r q d s loose rest o =
     let n = q.counted in
     rw c.set.ensures
-    (push_noted l r (λ e. c.if-noted-eq0.false (omega arith)) c.bare-row-names.auto.decls s
-    (c.bare-row-names.ensures es c.args.stmts.now l q d) c.take-at.ensures o)
+    (push_noted l r (λ e. c.if-noted-eq0.false (omega arith)) c.bare_row-names.auto.decls s
+    (c.bare_row-names.ensures es c.args.stmts.now l q d) c.take-at.ensures o)

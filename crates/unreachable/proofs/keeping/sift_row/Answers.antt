@@ -15,10 +15,10 @@ returns-then-at c xs r loose others o =
 pub loop-i-preserved : goal.loop-i-preserved
 loop-i-preserved c =
     one_sifted (tables c.args.exprs.now c.args.stmts.now c.args.decls.now) (tables c.loop-i.exprs c.loop-i.stmts c.loop-i.decls)
-    (tables c.sift-stmt-sifted.new.exprs c.sift-stmt-sifted.new.stmts c.sift-stmt-sifted.new.decls) c.args.pools.now
-    c.loop-i.pools c.sift-stmt-sifted.new.pools c.args.row c.args.results c.loop-i.pushed c.loop-i.at
-    c.sift-stmt-sifted.result.results c.sift-stmt-sifted.result.rest c.loop-i.-i c.if-at.false c.loop-i.invariant
-    c.sift-stmt-sifted.ensures
+    (tables c.sift_stmt-sifted.new.exprs c.sift_stmt-sifted.new.stmts c.sift_stmt-sifted.new.decls) c.args.pools.now
+    c.loop-i.pools c.sift_stmt-sifted.new.pools c.args.row c.args.results c.loop-i.pushed c.loop-i.at
+    c.sift_stmt-sifted.result.results c.sift_stmt-sifted.result.rest c.loop-i._i c.if-at.false c.loop-i.invariant
+    c.sift_stmt-sifted.ensures
 
 pub returns : goal.returns
 returns c xs r loose others o =

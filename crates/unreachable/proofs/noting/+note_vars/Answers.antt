@@ -13,11 +13,11 @@ returns-then-at t c es r s a m d =
 
 pub loop-i-preserved : goal.loop-i-preserved
 loop-i-preserved t c =
-    let e = c.stmt-at-stmt.ensures in
+    let e = c.stmt_at-stmt.ensures in
     rw e
     (stmts_again c.args.stmts.now c.args.decls.now c.args.row c.loop-i.at c.args.noted.now c.loop-i.noted
-    c.note-declaration.new.noted c.note-vars.new.noted c.args.most c.loop-i.-i (omega arith) c.if-at.false c.loop-i.invariant
-    (rw e at c.note-declaration.ensures) (rw e at c.note-vars.ensures))
+    c.note_declaration.new.noted c.note_vars.new.noted c.args.most c.loop-i._i (omega arith) c.if-at.false c.loop-i.invariant
+    (rw e at c.note_declaration.ensures) (rw e at c.note_vars.ensures))
 
 pub returns : goal.returns
 returns t c es r s a m d =

@@ -13,10 +13,10 @@ returns-then-at c es ss z s a d =
 
 pub loop-i-preserved : goal.loop-i-preserved
 loop-i-preserved c =
-    let r = c.decl-at-decl.ensures in
+    let r = c.decl_at-decl.ensures in
     rw r
-    (decls_again c.args.decls.now c.args.row c.loop-i.at c.args.noted.now c.loop-i.noted c.note-name.new.noted c.loop-i.-i
-    c.if-at.false c.loop-i.invariant (rw r at c.note-name.ensures))
+    (decls_again c.args.decls.now c.args.row c.loop-i.at c.args.noted.now c.loop-i.noted c.note_name.new.noted c.loop-i._i
+    c.if-at.false c.loop-i.invariant (rw r at c.note_name.ensures))
 
 pub returns : goal.returns
 returns c es ss z s a d =

@@ -8,8 +8,8 @@ loop-i-init c = none_turned c.args.stmts.now c.args.results
 
 pub loop-i-preserved : goal.loop-i-preserved
 loop-i-preserved c =
-    one_turned c.args.stmts.now c.loop-i.stmts c.relink-stmt-next.new.stmts c.args.results c.loop-i.row c.loop-i.rest
-    c.relink-stmt-next.result c.loop-i.-i c.if-rest.false c.loop-i.invariant c.relink-stmt-next.ensures
+    one_turned c.args.stmts.now c.loop-i.stmts c.relink_stmt-next.new.stmts c.args.results c.loop-i.row c.loop-i.rest
+    c.relink_stmt-next.result c.loop-i._i c.if-rest.false c.loop-i.invariant c.relink_stmt-next.ensures
 
 pub returns-then-rest : goal.returns-then-rest
 returns-then-rest c es ds p rs loose others o =
