@@ -21,7 +21,7 @@ use Rattle.records.specs.Rows.{Row, end}
 use Rattle.records.proofs.Moves.{end_in, end_out, pick}
 use Rattle.records.proofs.Tallies.{Equals, lengths}
 use Rattle.rules.specs.Declarations.{append_declarators}
-use Rattle.rules.specs.For.{ForHead, declaration_into_head, for_head, head_from, head_from_declaration, init_from, join_init_expression, var_into_head}
+use Rattle.rules.specs.For.{WorkedHead, declaration_into_head, for_head, head_from, head_from_declaration, init_from, join_init_expression, var_into_head}
 use Rattle.rules.specs.Budget.{weight_stmts}
 use Rattle.rules.specs.Merging.{last_declaration?, merge_leading_assignments_to_declaration}
 use Rattle.rules.proofs.BudgetMerging.{merge_leading_budget}
@@ -44,9 +44,9 @@ abbrev pub front : ForInit → ℕ → ℕ → ℕ → Front
 front i values inner results = record { init = i; values = values; inner = inner; results = results }
 
 -- the same head told in another way
-pub as_head : {h h' : Heap} {p' : Pools} {loose : List Place} {rest : List Root} {f : Front} {a b : ForHead} {w y : Row} → a ≡ b
+pub as_head : {h h' : Heap} {p' : Pools} {loose : List Place} {rest : List Root} {f : Front} {a b : WorkedHead} {w y : Row} → a ≡ b
     → HasHead h h' p' loose rest f b w y → HasHead h h' p' loose rest f a w y
-as_head {h} {h'} {p'} {loose} {rest} {f} {a} {b} {w} {y} e m = subst (λ (v : ForHead). HasHead h h' p' loose rest f v w y) (sym e) m
+as_head {h} {h'} {p'} {loose} {rest} {f} {a} {b} {w} {y} e m = subst (λ (v : WorkedHead). HasHead h h' p' loose rest f v w y) (sym e) m
 
 module _ {h : Heap} {p : Pools} {loose : List Place} {rest : List Root} {values inner results : ℕ} where
   -- no init
@@ -346,7 +346,7 @@ for_record f head = record {
 }
 
 pub for_closed : {h : Heap} {es : List ExprRecord} {stmts : List StmtRecord} {ds : List DeclRecord} {p : Pools} {loose : List Place} {rest : List Root} {at : ℕ}
-    (f : Front) (hd : ForHead) (head : ForHead) (i : Init) (t u : OptionalExpr) (b : Stmt) → hd ≡ head_of i t u
+    (f : Front) (hd : ForHead) (head : WorkedHead) (i : Init) (t u : OptionalExpr) (b : Stmt) → hd ≡ head_of i t u
     → HasHead h (tables es stmts ds) p (stmt_at at ∷ loose) rest f head (optional_row t (optional_row u end)) (stmt_row b end)
     → Moved h (tables es (set stmts at (for_record f hd)) ds) p loose ((stmt_at at, stmts_row (stmt_then (for head.init t u b) head.results)) ∷ rest)
 for_closed f hd head i t u b e x =

@@ -11,7 +11,7 @@ use Rattle.records.specs.Heap.{Heap, Place, expr_at, stmt_at}
 use Rattle.records.specs.Owned.{Owns, Root}
 use Rattle.records.specs.Rows.{Row}
 use Rattle.rules.specs.Expressions.{join_sequence}
-use Rattle.rules.specs.For.{ForHead, head_from}
+use Rattle.rules.specs.For.{WorkedHead, head_from}
 use Rattle.rules.specs.Merging.{Worked, merge_leading_assignments_to_declaration}
 use Rattle.moves.specs.Moved.{Moved}
 use Rattle.heading.specs.declared.heads.Front.{Front}
@@ -58,24 +58,24 @@ abbrev pub joined_init : Expr → OptionalExpr → Expr
 joined_init a absent = a
 joined_init a (present e) = join_sequence a e
 
-abbrev pub head_with : Init → Stmts → ForHead
+abbrev pub head_with : Init → Stmts → WorkedHead
 head_with i r = record { init = i; results = r }
 
 -- the head after the leading assignments of its init
-abbrev pub worked_head : Bool → Expr → Stmts → ForHead
+abbrev pub worked_head : Bool → Expr → Stmts → WorkedHead
 worked_head q e r = let w : Worked = merge_leading_assignments_to_declaration true e r in head_from q w.target w.results
 
 -- the rows of a head, before the others of the `for`, and the results before it
-abbrev pub head_rows : Front → ForHead → Row → Row → List Root
+abbrev pub head_rows : Front → WorkedHead → Row → Row → List Root
 head_rows f head w y =
     (expr_at f.values, init_exprs head.init w) ∷ (stmt_at f.inner, init_stmts head.init y) ∷ (stmt_at f.results, stmts_row head.results) ∷ []
 
 -- the head is there, and it has this init
-pub record HasHead (h h' : Heap) (p' : Pools) (loose : List Place) (rest : List Root) (f : Front) (head : ForHead) (w y : Row) : Type 0 where
+pub record HasHead (h h' : Heap) (p' : Pools) (loose : List Place) (rest : List Root) (f : Front) (head : WorkedHead) (w y : Row) : Type 0 where
   pub init : f.init ≡ init_kind head.init
   pub moved : Moved h h' p' loose (head_rows f head w y ++ rest)
 
 -- whoever owned the rows before, beside any others, owns the head, beside the same others
-abbrev pub TurnsToHead : Heap → Pools → Heap → Pools → List Root → Front → ForHead → Row → Row → Type 0
+abbrev pub TurnsToHead : Heap → Pools → Heap → Pools → List Root → Front → WorkedHead → Row → Row → Type 0
 TurnsToHead h p h' p' before f head w y =
     (loose : List Place) (rest : List Root) → Owns h p loose (before ++ rest) → HasHead h h' p' loose rest f head w y

@@ -11,7 +11,7 @@ use Rattle.run.specs.Names.{lexically_declared, var_declared, var_declared_init,
 use Rattle.run.specs.Execute.{Step, test_then_repeat, execute, declare}
 use Rattle.rules.specs.Merging.{LastDeclaration?, last_declaration, no_last_declaration, LastExpression?, last_expression}
 use Rattle.rules.specs.Merging.{no_last_expression, last_declaration?, last_expression?, Worked, merge_leading_assignments_to_declaration}
-use Rattle.rules.specs.For.{init_from, ForHead, join_init_expression, declaration_into_head, expression_into_head, head_from}
+use Rattle.rules.specs.For.{init_from, WorkedHead, join_init_expression, declaration_into_head, expression_into_head, head_from}
 use Rattle.rules.specs.For.{var_into_head, head_from_declaration, for_head, handle_for_statement}
 use Rattle.rules.specs.Results.{results_then, gather}
 use Rattle.rules.proofs.Completions.{and_then_assoc}
@@ -38,7 +38,7 @@ module _ (t u : OptionalExpr) (b : Stmt) where
       results_then_cong r
       (λ s. ap (λ x. and_then x (λ _ s₂. f s₂)) (for_executes p s) ∙ and_then_assoc (evaluate_optional undefined p s) _ _)
 
-  record HeadKeeps (i : Init) (r : Stmts) (h : ForHead) : Type 0 where
+  record HeadKeeps (i : Init) (r : Stmts) (h : WorkedHead) : Type 0 where
     same : (f : Step) → results_then (stmt_then (for h.init t u b) h.results) f ≡ results_then (stmt_then (for i t u b) r) f
     lexical : gather lexically_declared h.results ≡ gather lexically_declared r
     var : gather var_declared h.results ++ var_declared_init h.init ≡ gather var_declared r ++ var_declared_init i

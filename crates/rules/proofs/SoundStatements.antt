@@ -18,7 +18,7 @@ use Rattle.rules.specs.Merging.{last_expression, no_last_expression, last_declar
 use Rattle.rules.specs.Returns.{merge_return, may_merge_return, value_or_void_0, IfReturn?, return_step, if_return, no_if_return, return_loop}
 use Rattle.rules.specs.Returns.{if_return?, merge_returns, drop_undefined_as, drop_undefined_argument, merge_leading_into_declaration}
 use Rattle.rules.specs.Returns.{handle_return_statement, conditional_expression_count_exceeded}
-use Rattle.rules.specs.For.{ForHead, init_from, join_init_expression, declaration_into_head, expression_into_head, head_from}
+use Rattle.rules.specs.For.{WorkedHead, init_from, join_init_expression, declaration_into_head, expression_into_head, head_from}
 use Rattle.rules.specs.For.{var_into_head, head_from_declaration, for_head, handle_for_statement}
 use Rattle.rules.specs.Throws.{IfThrow?, throw_step, if_throw, no_if_throw, throw_loop, if_throw?, merge_throws, handle_throw_statement}
 use Rattle.rules.specs.Throws.{worked_throw_argument}
@@ -120,7 +120,7 @@ handle_throw_statement_sound s e r p q =
 
 -- the head of a `for`
 
-abbrev SoundHead : ForHead → Type 0
+abbrev SoundHead : WorkedHead → Type 0
 SoundHead h = SoundInit h.init × SoundStmts h.results
 
 init_from_sound : (p : OptionalExpr) → SoundOptional p → SoundInit (init_from p)

@@ -18,7 +18,7 @@ use Rattle.rules.specs.Merging.{LastExpression?, no_last_expression, last_declar
 use Rattle.rules.specs.Returns.{value_or_void_0, merge_return, may_merge_return, return_step, IfReturn?, if_return, no_if_return}
 use Rattle.rules.specs.Returns.{return_loop, if_return?, merge_returns, drop_undefined_as, drop_undefined_argument}
 use Rattle.rules.specs.Returns.{merge_leading_into_declaration, handle_return_statement, conditional_expression_count_exceeded}
-use Rattle.rules.specs.For.{ForHead, declaration_into_head, join_init_expression, expression_into_head, head_from, var_into_head}
+use Rattle.rules.specs.For.{WorkedHead, declaration_into_head, join_init_expression, expression_into_head, head_from, var_into_head}
 use Rattle.rules.specs.For.{head_from_declaration, for_head, handle_for_statement}
 use Rattle.rules.specs.Throws.{throw_step, IfThrow?, if_throw, no_if_throw, throw_loop, if_throw?, merge_throws, handle_throw_statement}
 use Rattle.rules.specs.Throws.{worked_throw_argument}
@@ -211,7 +211,7 @@ handle_throw_statement_performs q e r =
 
 -- the head of a `for`
 
-abbrev pub records_head : ForHead → Spares
+abbrev pub records_head : WorkedHead → Spares
 records_head h = plus (records_init h.init) (records_stmts h.results)
 
 pub declaration_into_head_records : (p : OptionalExpr) {r : Stmts} (v : LastDeclaration? r)

@@ -16,7 +16,7 @@ use Rattle.rules.specs.Merging.{merge_leading_assignments_to_declaration, merge_
 use Rattle.rules.specs.Returns.{value_or_void_0, may_merge_return, merge_return, IfReturn?, return_step, if_return, no_if_return, return_loop}
 use Rattle.rules.specs.Returns.{if_return?, merge_returns, drop_undefined_as, drop_undefined_argument, merge_leading_into_declaration}
 use Rattle.rules.specs.Returns.{handle_return_statement, conditional_expression_count_exceeded}
-use Rattle.rules.specs.For.{ForHead, init_from, join_init_expression, declaration_into_head, expression_into_head, head_from}
+use Rattle.rules.specs.For.{WorkedHead, init_from, join_init_expression, declaration_into_head, expression_into_head, head_from}
 use Rattle.rules.specs.For.{var_into_head, head_from_declaration, for_head, handle_for_statement}
 use Rattle.rules.specs.Throws.{IfThrow?, throw_step, if_throw, no_if_throw, throw_loop, if_throw?, merge_throws, handle_throw_statement}
 use Rattle.rules.specs.Throws.{worked_throw_argument}
@@ -138,7 +138,7 @@ handle_throw_statement_sinks q e r =
 
 -- the head of a `for`
 
-abbrev HeadSinks : ForHead → Init → Stmts → Type 0
+abbrev HeadSinks : WorkedHead → Init → Stmts → Type 0
 HeadSinks h i r = (h ≡ record { init = i; results = r }) ⊎ (weight_of_init h.init + weight h.results < weight_of_init i + weight r)
 
 init_from_weight : (p : OptionalExpr) → weight_of_init (init_from p) ≡ records_optional p
@@ -183,11 +183,11 @@ head_from_declaration_sinks true Let ds r = inl refl
 head_from_declaration_sinks true Const ds r = inl refl
 head_from_declaration_sinks false k ds r = inl refl
 
-head_below : (h : ForHead) (i : Init) (r : Stmts) → HeadSinks h i r
+head_below : (h : WorkedHead) (i : Init) (r : Stmts) → HeadSinks h i r
     → weight_of_init h.init + weight h.results ≤ weight_of_init i + weight r
 head_below h i r (inl p) =
     let e : weight_of_init h.init + weight h.results ≡ weight_of_init i + weight r =
-    ap (λ (x : ForHead). weight_of_init x.init + weight x.results) p in
+    ap (λ (x : WorkedHead). weight_of_init x.init + weight x.results) p in
     omega arith
 head_below h i r (inr l) = omega arith
 
@@ -209,8 +209,8 @@ pub handle_for_statement_sinks : (q : Bool) (i : Init) (t u : OptionalExpr) (b :
     → Sinks (handle_for_statement q i t u b r) (stmt_then (for i t u b) r)
 handle_for_statement_sinks q i t u b r = by (for_head q i r) (for_head_sinks q i r)
   where
-    by : (h : ForHead) → HeadSinks h i r → Sinks (stmt_then (for h.init t u b) h.results) (stmt_then (for i t u b) r)
-    by h (inl p) = inl (ap (λ (x : ForHead). stmt_then (for x.init t u b) x.results) p)
+    by : (h : WorkedHead) → HeadSinks h i r → Sinks (stmt_then (for h.init t u b) h.results) (stmt_then (for i t u b) r)
+    by h (inl p) = inl (ap (λ (x : WorkedHead). stmt_then (for x.init t u b) x.results) p)
     by h (inr l) = inr (omega arith)
 
 -- switches

@@ -7,7 +7,7 @@ use Rattle.script.specs.Tree.{OptionalExpr, absent, present, Stmt, empty, expres
 use Rattle.script.specs.Tree.{block, while, do_while, for, switch, break, continue, Alternate, no_alternate, Stmts, no_stmts, stmt_then}
 use Rattle.script.specs.Tree.{Cases, no_cases, case_then, Exprs, no_exprs, expr_then}
 use Rattle.rules.specs.Merging.{Worked}
-use Rattle.rules.specs.For.{ForHead}
+use Rattle.rules.specs.For.{WorkedHead}
 use Rattle.rules.specs.Folding.{MergedTest}
 
 -- no table has more
@@ -77,7 +77,7 @@ budget_cases cs = plus (records_cases cs) (weight_cases cs)
 abbrev pub budget_worked : Worked → Spares
 budget_worked w = plus (exprs_only (records_optional w.target)) (budget_stmts w.results)
 
-abbrev pub budget_head : ForHead → Spares
+abbrev pub budget_head : WorkedHead → Spares
 budget_head h = plus (records_init h.init) (budget_stmts h.results)
 
 abbrev pub budget_test : MergedTest → Spares
