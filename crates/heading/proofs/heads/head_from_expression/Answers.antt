@@ -5,19 +5,19 @@ use Rattle.heading.proofs.heads.head_from_expression.Goals as goal
 pub returns-then-not-sequences : goal.returns-then-not-sequences
 returns-then-not-sequences c ds v w y r n loose rest o =
     as_head (sequences_off c.args.sequences v r c.if-not-sequences.true)
-    (c.put-init.ensures c.args.stmts.now ds c.args.pools.now v w y r loose rest o)
+    (c.put_init.ensures c.args.stmts.now ds c.args.pools.now v w y r loose rest o)
 
-pub returns-then-is-expression : goal.returns-then-is-expression
-returns-then-is-expression c ds v w y r n loose rest o =
-    head_by_expression c.args.sequences v w y r c.if-not-sequences.false (sym c.is-expression.ensures ∙ c.if-is-expression.true)
-    (λ a r' o₁. c.take-expression.ensures ds v w y a r' n loose rest o₁) o
+pub returns-then-is_expression : goal.returns-then-is_expression
+returns-then-is_expression c ds v w y r n loose rest o =
+    head_by_expression c.args.sequences v w y r c.if-not-sequences.false (sym c.is_expression.ensures ∙ c.if-is_expression.true)
+    (λ a r' o₁. c.take_expression.ensures ds v w y a r' n loose rest o₁) o
 
 pub returns-then-init-eq-NOWHERE : goal.returns-then-init-eq-NOWHERE
 returns-then-init-eq-NOWHERE c ds v w y r n loose rest o =
-    head_by_declaration c.args.sequences v w y r c.if-not-sequences.false (sym c.is-expression.ensures ∙ c.if-is-expression.false)
-    c.if-init-eq-NOWHERE.true (λ o₁. c.take-var.ensures c.args.exprs.now ds c.args.pools.now w y r loose rest o₁) o
+    head_by_declaration c.args.sequences v w y r c.if-not-sequences.false (sym c.is_expression.ensures ∙ c.if-is_expression.false)
+    c.if-init-eq-NOWHERE.true (λ o₁. c.take_var.ensures c.args.exprs.now ds c.args.pools.now w y r loose rest o₁) o
 
 pub returns : goal.returns
 returns c ds v w y r n loose rest o =
-    head_by_init c.args.sequences v w y r c.if-not-sequences.false (sym c.is-expression.ensures ∙ c.if-is-expression.false)
-    c.if-init-eq-NOWHERE.false (λ o₁. c.put-init-2.ensures c.args.stmts.now ds c.args.pools.now v w y r loose rest o₁) o
+    head_by_init c.args.sequences v w y r c.if-not-sequences.false (sym c.is_expression.ensures ∙ c.if-is_expression.false)
+    c.if-init-eq-NOWHERE.false (λ o₁. c.put_init-2.ensures c.args.stmts.now ds c.args.pools.now v w y r loose rest o₁) o

@@ -12,13 +12,13 @@ use Rattle.heading.proofs.heads.join_vars.Goals as goal
 
 pub returns : goal.returns
 returns c es k xs ys y z loose rest o =
-    let own = c.stmt-at-own.result in
-    let last = c.stmt-at-last.result in
+    let own = c.stmt_at-own.result in
+    let last = c.stmt_at-last.result in
     then_loose
     (then_loose
-    (c.append-declarators-names.ensures es c.args.stmts.now c.args.pools.now xs ys (stmt_at c.args.inner ∷ stmt_at c.args.results ∷ loose)
+    (c.append_declarators-names.ensures es c.args.stmts.now c.args.pools.now xs ys (stmt_at c.args.inner ∷ stmt_at c.args.results ∷ loose)
     ((expr_at own.exprs, end) ∷ (stmt_at own.stmts, end) ∷ (stmt_at own.next, y) ∷ (stmt_at last.next, z) ∷ rest)
-    (vars_opened k xs ys y z own last c.stmt-at-own.ensures c.stmt-at-last.ensures o))
+    (vars_opened k xs ys y z own last c.stmt_at-own.ensures c.stmt_at-last.ensures o))
     (λ o₁. var_closed k (append_declarators xs ys) y own
-    (ap (λ (v : StmtRecord). v.kind) c.stmt-at-own.ensures ∙ kind_of_stmt (declaration k ys) y o) c.set.ensures o₁))
+    (ap (λ (v : StmtRecord). v.kind) c.stmt_at-own.ensures ∙ kind_of_stmt (declaration k ys) y o) c.set.ensures o₁))
     (λ o₂. give_stmt_of c.args.results c.give.new.table c.give.new.pool c.give.ensures o₂)

@@ -9,15 +9,15 @@ use Rattle.heading.proofs.heads.take_expression.Goals as goal
 
 pub returns : goal.returns
 returns c ds v w y a r n loose rest o =
-    let e = c.stmt-at-last.ensures in
+    let e = c.stmt_at-last.ensures in
     record {
       init = refl;
       moved = regroup
           (then_move
           (then_move (give_stmt_of c.args.results c.give.new.table c.give.new.pool c.give.ensures (rw e (expression_opened v w y a r o)))
-          (λ o₁. c.join-init-joined.ensures c.give.new.table ds a v n loose
-          ((stmt_at c.stmt-at-last.result.next, stmts_row r) ∷ (expr_at c.args.values, w) ∷ (stmt_at c.args.inner, y) ∷ rest) o₁))
-          (λ o₂. c.link-expr.ensures c.give.new.table ds c.join-init-joined.new.pools (joined_init a v) w loose
-          ((stmt_at c.stmt-at-last.result.next, stmts_row r) ∷ (stmt_at c.args.inner, y) ∷ rest) (arrange (0 ∷ 1 ∷ []) o₂)))
+          (λ o₁. c.join_init-joined.ensures c.give.new.table ds a v n loose
+          ((stmt_at c.stmt_at-last.result.next, stmts_row r) ∷ (expr_at c.args.values, w) ∷ (stmt_at c.args.inner, y) ∷ rest) o₁))
+          (λ o₂. c.link_expr.ensures c.give.new.table ds c.join_init-joined.new.pools (joined_init a v) w loose
+          ((stmt_at c.stmt_at-last.result.next, stmts_row r) ∷ (stmt_at c.args.inner, y) ∷ rest) (arrange (0 ∷ 1 ∷ []) o₂)))
           (λ o₃. arrange (0 ∷ 1 ∷ []) o₃);
     }

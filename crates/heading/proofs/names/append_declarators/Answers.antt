@@ -6,6 +6,6 @@ returns-then-row-eq-NOWHERE c es ss p xs ys loose rest o = none_before xs ys c.i
 
 pub returns : goal.returns
 returns c es ss p xs ys loose rest o =
-    rw (c.set.ensures, c.decl-at-decl.ensures)
-    (names_appended c.last-of-names-last.result xs ys c.if-row-eq-NOWHERE.false
-    (λ n v zs s a l. c.last-of-names-last.ensures es ss n v zs s a l) o)
+    rw (c.set.ensures, c.decl_at-decl.ensures)
+    (names_appended c.last_of_names-last.result xs ys c.if-row-eq-NOWHERE.false
+    (λ n v zs s a l. c.last_of_names-last.ensures es ss n v zs s a l) o)

@@ -7,9 +7,9 @@ use Rattle.heading.proofs.switches.inline_default.Goals as goal
 
 pub returns : goal.returns
 returns c ds d xs r n m loose rest o =
-    default_done d xs r (push_discriminant c.args.sequences (is_literal d) d r) (c.keep-discriminant-kept.ensures ds d r n m)
-    (c.block-of-case-block.ensures c.keep-discriminant-kept.new.exprs ds xs)
+    default_done d xs r (push_discriminant c.args.sequences (is_literal d) d r) (c.keep_discriminant-kept.ensures ds d r n m)
+    (c.block_of_case-block.ensures c.keep_discriminant-kept.new.exprs ds xs)
     (λ roots o₁. give_stmt_of c.args.at c.give.new.table c.give.new.pool c.give.ensures o₁)
-    (c.link-stmt.ensures c.keep-discriminant-kept.new.exprs ds
-    (record { exprs = c.block-of-case-block.new.pools.exprs; stmts = c.give.new.pool; decls = c.block-of-case-block.new.pools.decls })
+    (c.link_stmt.ensures c.keep_discriminant-kept.new.exprs ds
+    (record { exprs = c.block_of_case-block.new.pools.exprs; stmts = c.give.new.pool; decls = c.block_of_case-block.new.pools.decls })
     (case_block xs) (stmts_row (push_discriminant c.args.sequences (is_literal d) d r))) o

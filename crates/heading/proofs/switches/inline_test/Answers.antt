@@ -13,8 +13,8 @@ returns c ds d e xs w n loose rest o =
     rw c.set.ensures
     (then_loose
     (then_loose
-    (c.strict-equality-equal.ensures c.args.stmts.now ds d e n (stmt_at c.args.case ∷ stmt_at c.args.at ∷ loose)
+    (c.strict_equality-equal.ensures c.args.stmts.now ds d e n (stmt_at c.args.case ∷ stmt_at c.args.at ∷ loose)
     ((stmt_at c.args.list, stmts_row xs) ∷ (stmt_at c.args.results, w) ∷ rest) o)
-    (λ o₁. c.block-of-case-block.ensures c.strict-equality-equal.new.exprs ds xs (stmt_at c.args.at ∷ loose)
-    ((expr_at c.strict-equality-equal.result, expr_row (strict_equality d e) end) ∷ (stmt_at c.args.results, w) ∷ rest) (pick 1 o₁)))
+    (λ o₁. c.block_of_case-block.ensures c.strict_equality-equal.new.exprs ds xs (stmt_at c.args.at ∷ loose)
+    ((expr_at c.strict_equality-equal.result, expr_row (strict_equality d e) end) ∷ (stmt_at c.args.results, w) ∷ rest) (pick 1 o₁)))
     (λ o₂. if_closed (strict_equality d e) (case_block xs) w o₂))

@@ -8,5 +8,5 @@ returns-then-test-eq-NOWHERE c ss ds v s a f = none_nowhere (tables c.args.exprs
 
 pub returns : goal.returns
 returns c ss ds v s a f =
-    literal_there (tables c.args.exprs.now ss ds) c.args.test v c.is-literal.result c.if-test-eq-NOWHERE.false
-    (λ e b n. c.is-literal.ensures ss ds e end s b n) a f
+    literal_there (tables c.args.exprs.now ss ds) c.args.test v c.is_literal.result c.if-test-eq-NOWHERE.false
+    (λ e b n. c.is_literal.ensures ss ds e end s b n) a f

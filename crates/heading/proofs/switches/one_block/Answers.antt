@@ -10,12 +10,12 @@ returns-then-list-eq-NOWHERE c es ds xs s a f =
 
 pub returns-in-Block : goal.returns-in-Block
 returns-in-Block c es ds xs s a f =
-    let r = c.stmt-at-first.ensures in
+    let r = c.stmt_at-first.ensures in
     rw r
     (block_alone (tables es c.args.stmts.now ds) c.args.list xs c.if-list-eq-NOWHERE.false
     (sym c.in-Block.is ∙ ap (λ (v : StmtRecord). v.kind) r) s a)
 
-pub returns-in-default : goal.returns-in-default
-returns-in-default c es ds xs s a f =
+pub returns-in_default : goal.returns-in_default
+returns-in_default c es ds xs s a f =
     no_block_here (tables es c.args.stmts.now ds) c.args.list xs
-    (λ z. c.in-default.not-Block (ap (λ (v : StmtRecord). v.kind) c.stmt-at-first.ensures ∙ z)) a
+    (λ z. c.in_default.not-Block (ap (λ (v : StmtRecord). v.kind) c.stmt_at-first.ensures ∙ z)) a
