@@ -2,6 +2,7 @@
 use crate::steps::*;
 use std::alloc::Global;
 use std::process::Abort;
+use std::test::Fail;
 use tables::{Tables, end_draft};
 
 const OUTPUT: usize = 64;

@@ -4,6 +4,7 @@ use script::{ExpressionKind, StatementKind};
 use sheet::{DeclRecord, Draft, ExprRecord, StmtRecord};
 use std::alloc::Global;
 use std::process::Abort;
+use std::test::Fail;
 use tables::{Tables, end_draft, end_whole};
 
 const OUTPUT: usize = 32;

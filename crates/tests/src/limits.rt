@@ -3,6 +3,7 @@ use crate::steps::*;
 use sheet::{DECL_LIMIT, EXPR_LIMIT, STMT_LIMIT};
 use std::alloc::Global;
 use std::process::Abort;
+use std::test::Fail;
 use tables::{Sizes, Tables, end_draft, end_whole};
 
 // Tables that are a record or two short for `DECLARED`: which one, and the bytes taken before that tells.

@@ -137,10 +137,7 @@ pub fn feed(
         taken,
         answer,
     } = tables.feed(draft, bytes);
-    let draft = keep_draft(
-        draft,
-        check_eq(Told::of(taken, answer), told).note(format_args!("fed {bytes:?}")),
-    )?;
+    assert_eq!(rt; Told::of(taken, answer), told, "fed {bytes:?}");
     keep_draft(draft, check_marks(rt, tables, told.number))
 }
 
@@ -178,7 +175,7 @@ pub fn unclosed(
             Err(Fail::new("close was not refused"))
         }
         Err(Unclosed { draft, fault }) => {
-            let draft = keep_draft(draft, check_eq(fault.number(), number))?;
+            assert_eq!(rt; fault.number(), number);
             keep_draft(draft, check_marks(rt, tables, number))
         }
     }
@@ -195,7 +192,7 @@ pub fn write(
     soil(tables);
     fill(out, BLANK);
     let Wrote { whole, answer } = tables.write(whole, out);
-    let whole = keep_whole(whole, check_eq(write_number(answer), 0))?;
+    assert_eq!(rt; write_number(answer), 0);
     let whole = keep_whole(whole, check_written(rt, answer, out, bytes))?;
     keep_whole(whole, check_marks(rt, tables, 0))
 }
@@ -211,11 +208,8 @@ pub fn unwritten(
     soil(tables);
     fill(out, BLANK);
     let Wrote { whole, answer } = tables.write(whole, out);
-    let whole = keep_whole(whole, check_eq(write_number(answer), number))?;
-    let whole = keep_whole(
-        whole,
-        check(is_all(out, BLANK)).note("the output was changed"),
-    )?;
+    assert_eq!(rt; write_number(answer), number);
+    assert!(rt; is_all(out, BLANK), "the output was changed");
     keep_whole(whole, check_marks(rt, tables, number))
 }
 
