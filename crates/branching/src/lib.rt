@@ -1,4 +1,6 @@
 // The rules on an `if` by itself, over the tables.
+#![tactic(auto)]
+
 mod branches;
 mod logical;
 mod minimize;

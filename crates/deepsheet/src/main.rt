@@ -1,4 +1,6 @@
 // The deepest sheets that the limits allow: each is fed, closed and written in tables of full size, and has to come back byte for byte.
+#![tactic(auto)]
+
 use sheet::{DECL_LIMIT, EXPR_LIMIT, STMT_LIMIT};
 use std::alloc::{AllocError, Global};
 use tables::{Sizes, Tables};

@@ -1,5 +1,5 @@
 -- The way to the end of a row of declarators, and a row put behind another.
-use Rattle.std.proofs.Common.{◌≡◌, ℕ, ◌+◌, ◌<◌, ◌≤◌, ◌≢◌, List, [], ◌∷◌, length, get_or, set, sym, refl, ap, ◌∙◌, subst, arith}
+use Rattle.std.proofs.Common.{◌≡◌, ℕ, ◌+◌, ◌<◌, ◌≤◌, ◌≢◌, List, [], ◌∷◌, length, get_or, set, sym, ap, subst, arith}
 use Rattle.pool.specs.Chain.{nowhere}
 use Rattle.script.specs.Judge.{Spares}
 use Rattle.script.specs.Sound.{count_declarators, records_declarators}

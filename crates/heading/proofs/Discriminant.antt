@@ -1,6 +1,5 @@
 -- A `switch` whose discriminant takes in what stands before it.
-use Rattle.std.proofs.Common.{◌≡◌, ℕ, ◌+◌, ◌≤◌, Bool, false, List, [], ◌∷◌, sym, refl, ap, ◌∙◌, subst, arith}
-use Rattle.script.specs.Judge.{Spares}
+use Rattle.std.proofs.Common.{◌≡◌, ℕ, ◌≤◌, Bool, false, List, [], ◌∷◌, arith}
 use Rattle.script.specs.Sound.{exprs_only, plus, records_expr, records_optional}
 use Rattle.script.specs.Tree.{Cases, Expr, OptionalExpr, Stmts, absent, present, switch}
 use Rattle.records.specs.declared.record.Pools.{Pools}
@@ -8,9 +7,8 @@ use Rattle.records.specs.Embedding.{cases_row, expr_row, optional_row, stmts_row
 use Rattle.records.specs.Heap.{Heap, Place, expr_at, stmt_at}
 use Rattle.records.specs.Holds.{counted}
 use Rattle.records.specs.Owned.{Owns, Root}
-use Rattle.records.specs.Rows.{Row, end}
-use Rattle.records.proofs.Moves.{pick}
-use Rattle.records.proofs.Tallies.{Equals, equal, lengths, records_expr_row, records_optional_row, records_roots, records_stmts_row}
+use Rattle.records.specs.Rows.{end}
+use Rattle.records.proofs.Tallies.{Equals, equal, lengths, records_expr_row, records_optional_row, records_stmts_row}
 use Rattle.rules.specs.Budget.{AtMost, budget_stmts, budget_worked, weight_stmts}
 use Rattle.rules.specs.Merging.{Worked, last_expression?, merge_last_expression_into_sequence, merge_leading_assignments_to_declaration, next_work}
 use Rattle.rules.specs.Returns.{value_or_void_0}

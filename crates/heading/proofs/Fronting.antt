@@ -6,7 +6,6 @@ use Rattle.script.specs.declared.DeclarationKind.TheVariants.{Const, Let, Var}
 use Rattle.script.specs.declared.ForHead.{ForHead}
 use Rattle.script.specs.declared.ForInit.{ForInit}
 use Rattle.script.specs.declared.ForInit.TheVariants as init
-use Rattle.script.specs.declared.StatementKind.{StatementKind}
 use Rattle.script.specs.declared.StatementKind.TheVariants as kind
 use Rattle.script.specs.Tree.{Declarators, Expr, Init, OptionalExpr, Stmt, Stmts, absent, declaration, expression, for, init_declaration, init_expression, no_init, present, stmt_then}
 use Rattle.records.specs.declared.record.DeclRecord.{DeclRecord}
@@ -25,7 +24,6 @@ use Rattle.rules.specs.For.{WorkedHead, declaration_into_head, for_head, head_fr
 use Rattle.rules.specs.Budget.{weight_stmts}
 use Rattle.rules.specs.Merging.{last_declaration?, merge_leading_assignments_to_declaration}
 use Rattle.rules.proofs.BudgetMerging.{merge_leading_budget}
-use Rattle.moves.specs.First.{stmt_kind}
 use Rattle.moves.specs.Moved.{Moved, Turns}
 use Rattle.moves.proofs.Frames.{arrange, regroup, stays, then_move}
 use Rattle.moves.proofs.Open.{close_expr, close_stmt, kind_of_expr, kind_of_stmt, open_expr, open_stmt}

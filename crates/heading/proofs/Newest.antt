@@ -1,11 +1,10 @@
 -- The newest result, told by the kind of its record.
 use Rattle.std.proofs.Common.{◌≡◌, ℕ, ◌≤◌, Bool, true, false, T, length, get_or, sym, refl, ap, ◌∙◌, subst, arith}
 use Rattle.std.proofs.lemmas.List.{get_or_past}
-use Rattle.script.specs.declared.DeclarationKind.{DeclarationKind}
 use Rattle.script.specs.declared.DeclarationKind.TheVariants.{Const, Let, Var}
 use Rattle.script.specs.declared.StatementKind.{StatementKind}
 use Rattle.script.specs.declared.StatementKind.TheVariants as kind
-use Rattle.script.specs.Tree.{Declarators, Expr, OptionalExpr, Stmt, Stmts, absent, init_declaration, no_init, no_stmts, present, stmt_then}
+use Rattle.script.specs.Tree.{Declarators, Expr, OptionalExpr, Stmts, absent, init_declaration, no_init, no_stmts, stmt_then}
 use Rattle.script.specs.Tree.{block, break, continue, declaration, do_while, empty, expression, for, if_then, return_of, switch, throw, while}
 use Rattle.records.specs.declared.record.StmtRecord.{StmtRecord}
 use Rattle.records.specs.Embedding.{stmts_row}

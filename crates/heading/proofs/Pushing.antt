@@ -1,5 +1,5 @@
 -- Statements moved one by one onto the results.
-use Rattle.std.proofs.Common.{◌≡◌, ℕ, ◌+◌, ◌<◌, ◌≤◌, true, false, ◌≢◌, List, [], ◌∷◌, length, get_or, set, sym, refl, ap, ◌∙◌, subst, arith}
+use Rattle.std.proofs.Common.{◌≡◌, ℕ, ◌+◌, ◌<◌, ◌≤◌, true, false, ◌≢◌, List, [], ◌∷◌, length, get_or, set, sym, refl, ap, subst, arith}
 use Rattle.pool.specs.Chain.{nowhere}
 use Rattle.script.specs.declared.StatementKind.TheVariants as kind
 use Rattle.script.specs.Judge.{Spares}
@@ -13,10 +13,10 @@ use Rattle.records.specs.Embedding.{stmt_row, stmts_row}
 use Rattle.records.specs.Heap.{Heap, Place, blank_stmt, decl_at, expr_at, stmt_at}
 use Rattle.records.specs.Owned.{Owns, Root}
 use Rattle.records.specs.Readable.{tables}
-use Rattle.records.specs.Rows.{At, Row, end}
+use Rattle.records.specs.Rows.{At, Row}
 use Rattle.records.proofs.Balance.{balance}
 use Rattle.records.proofs.Moves.{end_in, end_out, pick}
-use Rattle.records.proofs.Tallies.{lengths, records_stmt_row, records_stmts_row}
+use Rattle.records.proofs.Tallies.{lengths, records_stmts_row}
 use Rattle.rules.specs.Statements.{any_cares_about_scope, handle_block, push_all}
 use Rattle.moves.specs.Moved.{Moved}
 use Rattle.moves.proofs.First.{stmt_first}

@@ -1,8 +1,8 @@
 -- What is owned after a `switch` was worked.
-use Rattle.std.proofs.Common.{◌≡◌, ℕ, ◌+◌, ◌≤◌, Bool, true, false, cond, not as negated, ◌&&◌, T, ◌≢◌, List, [], ◌∷◌, get_or, set, sym, refl, ap, ◌∙◌, subst, arith}
+use Rattle.std.proofs.Common.{◌≡◌, ℕ, Bool, true, false, cond, not as negated, ◌&&◌, T, ◌≢◌, List, [], ◌∷◌, get_or, set, sym, refl, subst}
 use Rattle.pool.specs.Chain.{nowhere}
 use Rattle.script.specs.declared.StatementKind.TheVariants as kind
-use Rattle.script.specs.Tree.{Cases, Expr, OptionalExpr, Stmt, Stmts, absent, case_then, no_alternate, no_cases, no_stmts, present, stmt_then, strict_equality}
+use Rattle.script.specs.Tree.{Cases, Expr, Stmt, Stmts, absent, case_then, no_alternate, no_cases, no_stmts, present, stmt_then, strict_equality}
 use Rattle.script.specs.Tree.{block, break, continue, declaration, do_while, empty, expression, for, if_then, return_of, switch, throw, while}
 use Rattle.records.specs.declared.record.DeclRecord.{DeclRecord}
 use Rattle.records.specs.declared.record.ExprRecord.{ExprRecord}
@@ -15,11 +15,11 @@ use Rattle.records.specs.Readable.{tables}
 use Rattle.records.specs.Rows.{Row, end}
 use Rattle.records.proofs.Moves.{end_in, end_out, opened, pick}
 use Rattle.rules.specs.Literals.{is_literal}
-use Rattle.rules.specs.Switches.{OneCase?, case_block, has_nested_break_in_list, inline_switch_case, one_case?, one_test?, push_discriminant}
+use Rattle.rules.specs.Switches.{case_block, has_nested_break_in_list, inline_switch_case, one_case?, one_test?, push_discriminant}
 use Rattle.moves.specs.Moved.{Moved, Turns}
 use Rattle.moves.proofs.Frames.{arrange, kept_both, kept_others, then_move}
 use Rattle.moves.proofs.Open.{close_stmt}
-use Rattle.heading.specs.Cases.{inlines, is_one_block, literal_or_none}
+use Rattle.heading.specs.Cases.{inlines, is_one_block}
 use Rattle.heading.proofs.Pushing.{block_closed, block_record}
 use Rattle.heading.proofs.Told.{expr_somewhere}
 

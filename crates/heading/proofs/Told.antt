@@ -1,5 +1,5 @@
 -- What the records of a row tell of its first tree.
-use Rattle.std.proofs.Common.{◌≡◌, ℕ, ◌+◌, ◌<◌, ◌≤◌, Bool, true, false, not as negated, ◌&&◌, T, eqb, ◌≢◌, List, [], ◌∷◌, length, get_or, sym, refl, ap, ◌∙◌, subst, arith, eq-eqb, ne_eqb}
+use Rattle.std.proofs.Common.{◌≡◌, ℕ, ◌≤◌, Bool, true, false, eqb, ◌≢◌, List, ◌∷◌, length, get_or, sym, refl, ap, ◌∙◌, subst, arith, eq-eqb, ne_eqb}
 use Rattle.pool.specs.Chain.{nowhere}
 use Rattle.script.specs.declared.StatementKind.{StatementKind}
 use Rattle.script.specs.declared.StatementKind.TheVariants as kind

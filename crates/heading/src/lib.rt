@@ -1,4 +1,6 @@
 // The rules on a block, a `switch` and the head of a `for`, over the tables.
+#![tactic(auto)]
+
 mod blocks;
 mod heads;
 mod names;

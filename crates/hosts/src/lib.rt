@@ -1,4 +1,6 @@
 // What a host knows of an expression: whether it is harmless, whether its value is undefined, and its truth in a test.
+#![tactic(auto)]
+
 mod bare;
 mod host;
 mod literal;

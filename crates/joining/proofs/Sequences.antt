@@ -4,7 +4,6 @@ use mathlib.Core.List.{List, [], ◌∷◌}
 use Prim.Native.Nat.{ℕ}
 use lib.ListN.{get_or, set}
 use Rattle.pool.specs.Chain.{nowhere}
-use Rattle.script.specs.declared.ExpressionKind.{ExpressionKind}
 use Rattle.script.specs.declared.ExpressionKind.TheVariants as expression
 use Rattle.script.specs.Tree.{Expr, Exprs, assignment, call, conditional, expr_then, logical, name, no_exprs, not, number, sequence, strict_equality, void, word}
 use Rattle.records.specs.declared.record.DeclRecord.{DeclRecord}
@@ -12,7 +11,7 @@ use Rattle.records.specs.declared.record.ExprRecord.{ExprRecord}
 use Rattle.records.specs.declared.record.Pools.{Pools}
 use Rattle.records.specs.declared.record.StmtRecord.{StmtRecord}
 use Rattle.records.specs.Embedding.{expr_row, exprs_row}
-use Rattle.records.specs.Heap.{Heap, Place, blank_expr, expr_at}
+use Rattle.records.specs.Heap.{Place, blank_expr, expr_at}
 use Rattle.records.specs.Owned.{Owns, Root}
 use Rattle.records.specs.Readable.{tables}
 use Rattle.records.specs.Rows.{Row, end}

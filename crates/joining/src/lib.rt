@@ -1,4 +1,6 @@
 // The rules that join expressions, over the tables.
+#![tactic(auto)]
+
 mod items;
 mod logical;
 mod sequence;

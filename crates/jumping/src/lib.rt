@@ -1,4 +1,6 @@
 // The rules on return and throw, over the tables.
+#![tactic(auto)]
+
 mod arguments;
 mod newest;
 mod returns;

@@ -1,4 +1,6 @@
 // The written bytes of a body as text that a person can read.
+#![tactic(auto)]
+
 mod command;
 mod telling;
 

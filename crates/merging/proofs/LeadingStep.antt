@@ -22,7 +22,7 @@ use Rattle.moves.proofs.Frames.{arrange, kept_both, kept_others, regroup, stays}
 use Rattle.moves.proofs.Lenses.{inside_expr}
 use Rattle.moves.proofs.Open.{kind_of_expr, open_expr}
 use Rattle.moves.proofs.Rows.{expr_behind, expr_within}
-use Rattle.merging.specs.Leading.{Step, declarators_after, has_taken, items_after, leading_step, rests, step_item, step_merged, takes}
+use Rattle.merging.specs.Leading.{Step, declarators_after, has_taken, items_after, leading_step, rests, step_item, step_merged}
 use Rattle.merging.specs.Searched.{is_merged, leads, merged_roots}
 
 -- what a step did

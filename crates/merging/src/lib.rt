@@ -1,4 +1,6 @@
 // The rules that merge an expression with the newest results, over the tables.
+#![tactic(auto)]
+
 mod declaration;
 mod declarators;
 mod last;

@@ -1,5 +1,5 @@
 -- The way along a chain to its last place.
-use Rattle.std.proofs.Common.{◌≡◌, ℕ, zero, suc, ◌+◌, ◌<◌, ◌≤◌, ◌≢◌, List, length, get_or, sym, refl, arith}
+use Rattle.std.proofs.Common.{◌≡◌, ℕ, zero, suc, ◌+◌, ◌<◌, ◌≤◌, ◌≢◌, List, length, get_or, arith}
 use Rattle.pool.specs.Chain.{Chain, nowhere}
 use Rattle.moves.specs.Front.{links_on}
 

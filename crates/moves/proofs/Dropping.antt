@@ -1,5 +1,5 @@
 -- Rows that are given back record by record.
-use Rattle.std.proofs.Common.{◌≡◌, ℕ, ◌+◌, ◌<◌, ◌≤◌, List, [], ◌∷◌, length, get_or, sym, refl, ap, ◌∙◌, subst, arith}
+use Rattle.std.proofs.Common.{◌≡◌, ℕ, ◌+◌, ◌≤◌, List, [], ◌∷◌, length, get_or, refl, ap, subst, arith}
 use Rattle.pool.specs.Chain.{nowhere}
 use Rattle.pool.specs.declared.Pool.{Pool}
 use Rattle.script.specs.Judge.{Spares}
@@ -7,7 +7,7 @@ use Rattle.records.specs.declared.record.DeclRecord.{DeclRecord}
 use Rattle.records.specs.declared.record.ExprRecord.{ExprRecord}
 use Rattle.records.specs.declared.record.Pools.{Pools}
 use Rattle.records.specs.declared.record.StmtRecord.{StmtRecord}
-use Rattle.records.specs.Heap.{Heap, Label, Nowhere, Place, blank_decl, blank_expr, blank_stmt, cell, decl_at, expr_at, stmt_at}
+use Rattle.records.specs.Heap.{Heap, Label, Nowhere, Place, blank_decl, blank_expr, blank_stmt, decl_at, expr_at, stmt_at}
 use Rattle.records.specs.Owned.{Owns, Root}
 use Rattle.records.specs.Readable.{tables}
 use Rattle.records.specs.Rows.{At, Row, end, node}

@@ -1,16 +1,10 @@
 -- Moves of ownership that keep what is loose: a record written, taken or given back, a row opened and closed.
-use Rattle.std.proofs.Common.{◌≡◌, ℕ, zero, suc, ◌+◌, ◌-◌, ◌<◌, ◌≤◌, List, [], ◌∷◌, map, length, get_or, set, sym, refl, ap, ◌∙◌, subst, ⊎_elim, arith, length-set, get_or-set_same}
-use lib.ListN.{length-map}
-use lib.Seq.{map-set}
-use Rattle.pool.specs.Chain.{nowhere, occurrences, places, same_place, Chain, modify}
-use Rattle.pool.specs.declared.Pool.{Pool}
+use Rattle.std.proofs.Common.{◌≡◌, ℕ, zero, suc, ◌+◌, ◌≤◌, List, [], ◌∷◌, sym, refl, ap, ◌∙◌, subst, ⊎_elim, arith}
+use Rattle.pool.specs.Chain.{same_place}
 use Rattle.std.proofs.lemmas.Bool.{cases_eq}
-use Rattle.pool.proofs.Chains.{same_place_same, same_place_other, chain_push, chain_rest, places_first, places_push, set_modify}
-use Rattle.records.specs.declared.record.ExprRecord.{ExprRecord}
-use Rattle.records.specs.declared.record.StmtRecord.{StmtRecord}
-use Rattle.records.specs.declared.record.DeclRecord.{DeclRecord}
+use Rattle.pool.proofs.Chains.{same_place_same, same_place_other}
 use Rattle.records.specs.declared.record.Pools.{Pools}
-use Rattle.records.specs.Heap.{Cell, Heap, Label, Place, Within, cell, decl_at, expr_at, same, stmt_at}
+use Rattle.records.specs.Heap.{Heap, Label, Place, Within, cell, decl_at, expr_at, same, stmt_at}
 use Rattle.records.specs.Rows.{Row, node, uses}
 use Rattle.records.specs.Owned.{Held, Inside, Owns, Root, loose_at, uses_all}
 use Rattle.records.proofs.Moves.{Off, bring, closed, held_bring, opened, same_self, uses_bring}

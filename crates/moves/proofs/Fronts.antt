@@ -1,5 +1,5 @@
 -- A row put behind another, whatever their records are, in the tables of expressions and of statements.
-use Rattle.std.proofs.Common.{◌≡◌, ℕ, suc, ◌+◌, ◌<◌, ◌≤◌, List, [], ◌∷◌, length, get_or, set, sym, refl, ap, ◌∙◌, subst, arith, get_or-set_same}
+use Rattle.std.proofs.Common.{◌≡◌, ℕ, suc, ◌<◌, ◌≤◌, List, [], ◌∷◌, length, get_or, set, sym, refl, ap, ◌∙◌, subst, arith, get_or-set_same}
 use Rattle.std.proofs.lemmas.List.{get_or-map}
 use Rattle.pool.specs.Chain.{Chain, modify, nowhere}
 use Rattle.pool.proofs.Chains.{set_modify}
@@ -9,7 +9,7 @@ use Rattle.records.specs.declared.record.DeclRecord.{DeclRecord}
 use Rattle.records.specs.declared.record.ExprRecord.{ExprRecord}
 use Rattle.records.specs.declared.record.Pools.{Pools}
 use Rattle.records.specs.declared.record.StmtRecord.{StmtRecord}
-use Rattle.records.specs.Heap.{Heap, Label, Nowhere, Place, blank_expr, blank_stmt, cell, decl_at, decl_label, expr_at, expr_cell, expr_label, expr_links, stmt_at, stmt_cell, stmt_label, stmt_links}
+use Rattle.records.specs.Heap.{Heap, Label, Nowhere, Place, blank_expr, blank_stmt, cell, decl_at, expr_at, expr_cell, expr_links, stmt_at, stmt_cell, stmt_links}
 use Rattle.records.specs.Owned.{Owns, Root, Short}
 use Rattle.records.specs.Readable.{tables}
 use Rattle.records.specs.Rows.{At, Row, end, node, row_length}

@@ -1,14 +1,14 @@
 -- Work inside a tree whose first record stays as it is.
-use Rattle.std.proofs.Common.{◌≡◌, ℕ, List, [], ◌∷◌, get_or, sym, refl, ap, ◌∙◌, subst}
+use Rattle.std.proofs.Common.{◌≡◌, ℕ, List, ◌∷◌, get_or, sym, refl, ap, ◌∙◌, subst}
 use Rattle.pool.specs.Chain.{nowhere}
 use Rattle.script.specs.declared.ExpressionKind.{ExpressionKind}
 use Rattle.script.specs.declared.StatementKind.{StatementKind}
 use Rattle.script.specs.Tree.{Declarators, Expr, OptionalExpr, Stmt, declarator_then}
 use Rattle.records.specs.declared.record.Pools.{Pools}
 use Rattle.records.specs.Embedding.{declarators_row, expr_row, optional_row, stmt_row}
-use Rattle.records.specs.Heap.{Cell, Heap, Place, blank_decl, blank_expr, blank_stmt, cell, decl_at, decl_label, expr_at, expr_label, stmt_at, stmt_label}
+use Rattle.records.specs.Heap.{Heap, Place, blank_decl, blank_expr, blank_stmt, cell, decl_at, decl_label, expr_at, expr_label, stmt_at, stmt_label}
 use Rattle.records.specs.Owned.{Owns, Root}
-use Rattle.records.specs.Rows.{Row, end, node}
+use Rattle.records.specs.Rows.{Row, end}
 use Rattle.records.proofs.Moves.{closed, end_in, pick}
 use Rattle.moves.specs.First.{expr_kind, expr_parts, stmt_decls, stmt_exprs, stmt_kind, stmt_stmts}
 use Rattle.moves.specs.Moved.{Moved}

@@ -1,5 +1,5 @@
 -- A tree's first record opened: it is loose then, and its parts and what follows are roots; and written again.
-use Rattle.std.proofs.Common.{◌≡◌, ℕ, List, [], ◌∷◌, get_or, set, sym, refl, ap, ◌∙◌, subst}
+use Rattle.std.proofs.Common.{◌≡◌, ℕ, List, ◌∷◌, get_or, set, sym, ap, ◌∙◌, subst}
 use Rattle.script.specs.declared.ExpressionKind.{ExpressionKind}
 use Rattle.script.specs.declared.StatementKind.{StatementKind}
 use Rattle.script.specs.Tree.{Declarators, Expr, OptionalExpr, Stmt, declarator_then}
@@ -8,7 +8,7 @@ use Rattle.records.specs.declared.record.ExprRecord.{ExprRecord}
 use Rattle.records.specs.declared.record.Pools.{Pools}
 use Rattle.records.specs.declared.record.StmtRecord.{StmtRecord}
 use Rattle.records.specs.Embedding.{declarators_row, expr_row, optional_row, stmt_row}
-use Rattle.records.specs.Heap.{Heap, Label, Place, blank_decl, blank_expr, blank_stmt, cell, decl_at, decl_label, expr_at, expr_label, stmt_at, stmt_label}
+use Rattle.records.specs.Heap.{Heap, Label, Place, blank_decl, blank_expr, blank_stmt, decl_at, decl_label, expr_at, expr_label, stmt_at, stmt_label}
 use Rattle.records.specs.Owned.{Owns, Root}
 use Rattle.records.specs.Rows.{At, Row, end, node}
 use Rattle.records.proofs.Moves.{end_out, opened, pick}

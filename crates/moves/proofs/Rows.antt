@@ -1,5 +1,5 @@
 -- The way to the end of a row of expressions, and a row put behind another.
-use Rattle.std.proofs.Common.{◌≡◌, ℕ, zero, suc, ◌+◌, ◌<◌, ◌≤◌, ◌≢◌, List, [], ◌∷◌, length, get_or, set, sym, refl, ap, ◌∙◌, subst, arith}
+use Rattle.std.proofs.Common.{◌≡◌, ℕ, ◌+◌, ◌<◌, ◌≤◌, ◌≢◌, List, [], ◌∷◌, length, get_or, set, sym, refl, ap, subst, arith}
 use Rattle.pool.specs.Chain.{nowhere}
 use Rattle.script.specs.Judge.{Spares}
 use Rattle.script.specs.Sound.{count_exprs, records_expr, records_exprs}
@@ -9,18 +9,17 @@ use Rattle.records.specs.declared.record.ExprRecord.{ExprRecord}
 use Rattle.records.specs.declared.record.Pools.{Pools}
 use Rattle.records.specs.declared.record.StmtRecord.{StmtRecord}
 use Rattle.records.specs.Embedding.{expr_row, exprs_row}
-use Rattle.records.specs.Heap.{Heap, Place, blank_expr, cell, expr_at}
+use Rattle.records.specs.Heap.{Heap, Place, blank_expr, expr_at}
 use Rattle.records.specs.Owned.{Owns, Root, Short}
 use Rattle.records.specs.Readable.{tables}
-use Rattle.records.specs.Rows.{At, Row, end, node}
+use Rattle.records.specs.Rows.{At, Row, end}
 use Rattle.records.proofs.Balance.{balance}
 use Rattle.records.proofs.Moves.{end_out, pick}
 use Rattle.records.proofs.Tallies.{lengths, records_expr_row, records_exprs_row}
-use Rattle.moves.specs.First.{expr_kind, expr_parts}
 use Rattle.moves.specs.Last.{exprs_before, last_behind}
 use Rattle.moves.specs.Moved.{Moved}
 use Rattle.moves.proofs.First.{expr_first}
-use Rattle.moves.proofs.Frames.{arrange, then_move, regroup}
+use Rattle.moves.proofs.Frames.{arrange, regroup}
 use Rattle.moves.proofs.Lenses.{inside_expr}
 use Rattle.moves.proofs.Open.{close_expr, kind_of_expr, open_expr}
 

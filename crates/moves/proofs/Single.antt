@@ -1,20 +1,18 @@
 -- Single records of each table: one taken, one given back, one written, with what that does to who owns them.
-use Rattle.std.proofs.Common.{◌≡◌, ℕ, zero, suc, ◌+◌, ◌-◌, ◌<◌, ◌≤◌, ◌≢◌, List, [], ◌∷◌, map, length, get_or, set, sym, refl, ap, ◌∙◌, subst, add-one, arith, length-set, get_or-set_same}
+use Rattle.std.proofs.Common.{◌≡◌, ℕ, ◌+◌, ◌<◌, ◌≢◌, List, ◌∷◌, length, get_or, set, sym, refl, ap, ◌∙◌, subst, add-one, arith, get_or-set_same}
 use lib.ListN.{length-map}
 use lib.Seq.{map-set}
-use Rattle.pool.specs.Chain.{Chain, modify, nowhere, occurrences, places, same_place}
+use Rattle.pool.specs.Chain.{Chain, occurrences, places, same_place}
 use Rattle.pool.specs.declared.Pool.{Pool}
 use Rattle.pool.proofs.Chains.{chain_first, chain_rest, places_first, set_modify}
 use Rattle.records.specs.declared.record.ExprRecord.{ExprRecord}
 use Rattle.records.specs.declared.record.StmtRecord.{StmtRecord}
 use Rattle.records.specs.declared.record.DeclRecord.{DeclRecord}
 use Rattle.records.specs.declared.record.Pools.{Pools}
-use Rattle.records.specs.Heap.{Heap, Label, Place, Within, blank_decl, blank_expr, blank_stmt, cell, decl_at, decl_cell, decl_links, decl_label, expr_at, expr_cell, expr_label, expr_links, same, spare, stmt_at, stmt_cell, stmt_label, stmt_links}
+use Rattle.records.specs.Heap.{Heap, Place, Within, blank_decl, blank_expr, blank_stmt, decl_at, decl_cell, decl_links, expr_at, expr_cell, expr_links, spare, stmt_at, stmt_cell, stmt_links}
 use Rattle.records.specs.Rows.{Row, end, node}
 use Rattle.records.specs.Owned.{Owns, Root, loose_at, uses_all}
-use Rattle.records.specs.Readable.{tables}
 use Rattle.records.specs.Turning.{decl_relinked, expr_relinked, stmt_relinked}
-use Rattle.records.specs.Holds.{counted}
 use Rattle.records.proofs.Writes.{off_decl, off_expr, off_stmt, relink_decl, relink_expr, relink_stmt, take_decl, take_expr, take_stmt, write_decl, write_expr, write_stmt}
 use Rattle.records.proofs.Balance.{balance}
 use Rattle.records.proofs.Tallies.{lengths}

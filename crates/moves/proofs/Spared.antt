@@ -1,13 +1,13 @@
 -- How many records are spare after a move: those before it, and the difference of the rows before and after.
-use Rattle.std.proofs.Common.{◌≡◌, ◌+◌, List, [], ◌∷◌, ◌++◌, sym, refl, ap, ◌∙◌, arith}
+use Rattle.std.proofs.Common.{◌≡◌, List, [], ◌∷◌, ◌++◌, ap, arith}
 use Rattle.script.specs.Judge.{Spares}
 use Rattle.script.specs.Sound.{plus}
 use Rattle.records.specs.declared.record.Pools.{Pools}
 use Rattle.records.specs.Heap.{Heap, Place}
 use Rattle.records.specs.Holds.{counted}
 use Rattle.records.specs.Owned.{Owns, Root}
-use Rattle.records.proofs.Balance.{balance, of_place, records_loose}
-use Rattle.records.proofs.Tallies.{Equals, lengths, records_roots, records_row}
+use Rattle.records.proofs.Balance.{balance, records_loose}
+use Rattle.records.proofs.Tallies.{Equals, lengths, records_roots}
 
 roots_both : (xs ys : List Root) → Equals (records_roots (xs ++ ys)) (plus (records_roots xs) (records_roots ys))
 roots_both [] ys = record { exprs = omega arith; stmts = omega arith; decls = omega arith }

@@ -1,13 +1,9 @@
 -- Which tree stands behind a first record's kind.
-use Rattle.std.specs.Prelude.{◌≡◌, ℕ}
-use Rattle.script.specs.declared.DeclarationKind.{DeclarationKind}
+use Rattle.std.specs.Prelude.{◌≡◌}
 use Rattle.script.specs.declared.ExpressionKind.{ExpressionKind}
 use Rattle.script.specs.declared.ExpressionKind.TheVariants as expression
-use Rattle.script.specs.declared.ForHead.{ForHead}
-use Rattle.script.specs.declared.LogicalOperator.{LogicalOperator}
 use Rattle.script.specs.declared.StatementKind.{StatementKind}
 use Rattle.script.specs.declared.StatementKind.TheVariants as statement
-use Rattle.script.specs.declared.Word.{Word}
 use Rattle.script.specs.Tree.{Alternate, Cases, Declarators, Expr, Exprs, Init, OptionalExpr, Stmt, Stmts}
 use Rattle.script.specs.Tree.{assignment, call, conditional, logical, name, not, number, sequence, strict_equality, void, word}
 use Rattle.script.specs.Tree.{block, break, continue, declaration, do_while, empty, expression, for, if_then, return_of, switch, throw, while}

@@ -1,5 +1,4 @@
 -- The first record of a tree: its kind, and the rows of its parts.
-use Rattle.std.specs.Prelude.{◌≡◌}
 use Rattle.script.specs.declared.ExpressionKind.{ExpressionKind}
 use Rattle.script.specs.declared.ExpressionKind.TheVariants as expression
 use Rattle.script.specs.declared.StatementKind.{StatementKind}

@@ -1,5 +1,7 @@
 // Single records of the tables: read, written, taken from their pool and given back. No place is too large for these
 // functions: outside its table nothing is read and nothing is written.
+#![tactic(auto)]
+
 mod cells;
 mod drops;
 mod links;

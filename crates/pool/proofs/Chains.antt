@@ -1,8 +1,8 @@
 -- Laws of chains: what a write to one record leaves of a chain, one record more at its front, one fewer.
-use Rattle.std.proofs.Common.{◌≡◌, ℕ, zero, suc, ◌+◌, ◌-◌, ◌<◌, ◌≤◌, Bool, true, false, cond, eqb, ◌≢◌, ◌⊎◌, List, [], ◌∷◌, map, length, get_or, set, sym, refl, ap, ◌∙◌, subst, ⊎_elim, add-one, add-one-le, arith, length-set, get_or-set_other, get_or-set_same, eq-eqb, ne_eqb}
+use Rattle.std.proofs.Common.{◌≡◌, ℕ, zero, suc, ◌+◌, ◌-◌, ◌<◌, ◌≤◌, cond, ◌≢◌, List, [], ◌∷◌, length, get_or, set, sym, refl, ap, ⊎_elim, arith, length-set, get_or-set_other, get_or-set_same, eq-eqb, ne_eqb}
 use Rattle.std.specs.List.{range_with_len}
 use Rattle.std.proofs.lemmas.Bool.{cases_eq}
-use Rattle.pool.specs.Chain.{Chain, places, same_place, occurrences, modify, nowhere}
+use Rattle.pool.specs.Chain.{Chain, places, same_place, occurrences, modify}
 
 pub same_place_self : (k : ℕ) → same_place k k ≡ 1
 same_place_self k = ap (λ b. cond b 1 0) (eq-eqb k k refl)

@@ -1,5 +1,5 @@
 -- A chain of records by their links, and the places that it passes.
-use Rattle.std.specs.Prelude.{◌≡◌, ℕ, zero, suc, ◌+◌, ◌<◌, ◌≤◌, Bool, true, false, cond, List, [], ◌∷◌, length, ◌==◌, slice_index}
+use Rattle.std.specs.Prelude.{◌≡◌, ℕ, zero, suc, ◌+◌, ◌<◌, cond, List, [], ◌∷◌, length, ◌==◌, slice_index}
 
 -- the link that leads nowhere
 abbrev pub nowhere : ℕ

@@ -1,5 +1,7 @@
 // A pool of records in a table that a caller lends: the spare records are chained by their links.
 // The pool knows of a record only that it has a link and which table it belongs to.
+#![tactic(auto)]
+
 ghost use Rattle.std.specs.Prelude.{◌≡◌, ℕ, ◌+◌, ◌<◌, ◌≤◌, map, length, Ok, Err};
 ghost use Rattle.pool.specs.Chain.{Chain, places, modify, nowhere};
 ghost use Rattle.pool.specs.Answers.{taken, pool_after, given};

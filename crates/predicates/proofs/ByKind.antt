@@ -1,9 +1,7 @@
 -- What a statement's kind alone tells.
-use mathlib.Core.Path.{◌≡◌, ◌∙◌, ap, refl, sym}
-use mathlib.Core.Bool.{Bool, ◌&&◌, false, true}
-use mathlib.Core.Logic.{◌⊎◌, inl, inr, ⊎_elim}
+use mathlib.Core.Path.{◌≡◌, ap, refl, sym}
+use mathlib.Core.Bool.{false, true}
 use Rattle.script.specs.declared.DeclarationKind.{DeclarationKind}
-use Rattle.script.specs.declared.StatementKind.{StatementKind}
 use Rattle.script.specs.declared.StatementKind.TheVariants as statement
 use Rattle.script.specs.Tree.{Stmt, block, break, continue, declaration, do_while, empty, expression, for, if_then, return_of, switch, throw, while}
 use Rattle.rules.specs.Holder.{Holder}

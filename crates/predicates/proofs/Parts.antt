@@ -4,15 +4,13 @@ use mathlib.Core.Bool.{Bool, ◌&&◌, ◌||◌, false, true}
 use mathlib.Core.List.{List}
 use Prim.Native.Nat.{ℕ, ◌+◌, ◌-◌, ◌<◌, ◌≤◌}
 use native.Mathlib.Omega.{arith}
-use lib.ListN.{get_or, length}
+use lib.ListN.{get_or}
 use Rattle.pool.specs.Chain.{nowhere}
 use Rattle.script.specs.declared.StatementKind.TheVariants as statement
 use Rattle.script.specs.Sound.{records_alternate, records_stmt, records_stmts}
-use Rattle.script.specs.Tree.{Alternate, Expr, OptionalExpr, Stmt, Stmts, absent, alternate, block, if_then, no_alternate, no_stmts, present, return_of, stmt_then}
-use Rattle.records.specs.declared.record.DeclRecord.{DeclRecord}
-use Rattle.records.specs.declared.record.ExprRecord.{ExprRecord}
+use Rattle.script.specs.Tree.{Alternate, OptionalExpr, Stmt, Stmts, absent, alternate, block, if_then, no_alternate, no_stmts, present, return_of, stmt_then}
 use Rattle.records.specs.declared.record.StmtRecord.{StmtRecord}
-use Rattle.records.specs.Embedding.{alternate_row, expr_row, optional_row, stmt_row, stmts_row}
+use Rattle.records.specs.Embedding.{alternate_row, optional_row, stmt_row, stmts_row}
 use Rattle.records.specs.Heap.{Heap, blank_stmt, expr_at, stmt_at}
 use Rattle.records.specs.Owned.{Short}
 use Rattle.records.specs.Readable.{tables}
@@ -21,7 +19,6 @@ use Rattle.rules.specs.Holder.{Holder}
 use Rattle.rules.specs.Jumps.{can_remove_termination_statement, drops_return}
 use Rattle.rules.specs.Statements.{is_terminated, is_terminated_alternate, is_terminated_list}
 use Rattle.rules.specs.Switches.{has_nested_break, has_nested_break_in_alternate, has_nested_break_in_list}
-use Rattle.moves.specs.First.{stmt_kind}
 use Rattle.moves.proofs.ByKind.{stmt_of_kind}
 use Rattle.moves.proofs.Told.{told_expr_within, told_stmt_exprs, told_stmt_kind, told_stmt_next, told_stmt_stmts, told_stmt_within}
 use Rattle.predicates.specs.Within.{TellsBranchesWithin, TellsStmtWithin, TellsStmtsWithin}

@@ -4,10 +4,8 @@ use mathlib.Core.Bool.{Bool, false, true}
 use mathlib.Core.List.{List}
 use Prim.Native.Nat.{ℕ, ◌+◌, ◌<◌, ◌≤◌}
 use native.Mathlib.Omega.{arith}
-use lib.Dec.{leb}
 use lib.ListN.{get_or, length}
 use borrow.Author.Tests.{le-leb, lt-leb}
-use Rattle.script.specs.declared.ExpressionKind.{ExpressionKind}
 use Rattle.script.specs.declared.ExpressionKind.TheVariants as expression
 use Rattle.script.specs.declared.Word.{Word}
 use Rattle.script.specs.Sound.{count_exprs, records_expr, records_exprs}
@@ -16,7 +14,7 @@ use Rattle.records.specs.declared.record.DeclRecord.{DeclRecord}
 use Rattle.records.specs.declared.record.ExprRecord.{ExprRecord}
 use Rattle.records.specs.declared.record.StmtRecord.{StmtRecord}
 use Rattle.records.specs.Embedding.{expr_row, exprs_row}
-use Rattle.records.specs.Heap.{Heap, Place, blank_expr, cell, expr_at}
+use Rattle.records.specs.Heap.{Heap, Place, blank_expr, expr_at}
 use Rattle.records.specs.Owned.{Short}
 use Rattle.records.specs.Readable.{tables}
 use Rattle.records.specs.Rows.{At, Row, end}

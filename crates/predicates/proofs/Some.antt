@@ -1,5 +1,5 @@
 -- Whether some statement of a row is such: the walk along the row.
-use mathlib.Core.Path.{◌≡◌, ◌∙◌, ap, refl, subst, sym}
+use mathlib.Core.Path.{◌≡◌, ◌∙◌, ap, refl, sym}
 use mathlib.Core.Bool.{Bool, ◌||◌, false, true}
 use mathlib.Core.List.{List}
 use Prim.Native.Nat.{ℕ, ◌+◌, ◌≤◌}

@@ -1,4 +1,6 @@
 // What the rules ask of trees, read from the tables. Nothing is written.
+#![tactic(auto)]
+
 mod expressions;
 mod held;
 mod statements;

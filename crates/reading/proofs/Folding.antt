@@ -1,13 +1,11 @@
 -- Judging bytes one after another: what is left of the bytes comes to the whole.
-use Rattle.std.proofs.Common.{◌≡◌, ℕ, zero, suc, ◌+◌, ◌<◌, ◌≤◌, List, [], ◌∷◌, length, get_or, drop, Ok, Err, Result, sym, refl, ap, ◌∙◌, subst, add-one, arith, drop-cons}
+use Rattle.std.proofs.Common.{◌≡◌, ℕ, zero, suc, ◌+◌, ◌<◌, ◌≤◌, List, length, get_or, drop, Ok, Err, sym, refl, ap, ◌∙◌, subst, add-one, arith, drop-cons}
 use Rattle.std.proofs.lemmas.List.{drop_all}
 use Rattle.script.specs.Format.{Refusal}
 use Rattle.script.specs.Judge.{Model, Verdict, turned_away, taken, judge, Fed, all_taken, stopped, one_more, then_fed, judge_all}
 use Rattle.faults.specs.declared.fault.ReadFault.{ReadFault}
-use Rattle.reading.specs.declared.judging.Taken.{Taken}
 use Rattle.records.specs.declared.record.Draft.{Draft}
 use Rattle.records.specs.Heap.{Heap}
-use Rattle.faults.specs.Faults.{fault_of}
 use Rattle.records.specs.Holds.{Holds}
 use Rattle.reading.specs.Judged.{Stepped, FedAs}
 

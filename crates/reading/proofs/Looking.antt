@@ -1,17 +1,15 @@
 -- Looking over the topmost records of a row, one after another.
-use Rattle.std.proofs.Common.{◌≡◌, ℕ, zero, suc, ◌+◌, ◌<◌, ◌≤◌, Bool, true, false, ◌&&◌, eqb, ◌≢◌, ◌⊎◌, List, length, get_or, sym, refl, ap, ◌∙◌, subst, inl, inr, ⊎_elim, arith, eq-eqb, ne_eqb}
+use Rattle.std.proofs.Common.{◌≡◌, ℕ, zero, suc, ◌+◌, ◌<◌, ◌≤◌, Bool, ◌&&◌, eqb, ◌≢◌, ◌⊎◌, List, length, get_or, sym, refl, ap, ◌∙◌, subst, inl, inr, arith, ne_eqb}
 use Rattle.pool.specs.Chain.{nowhere}
-use Rattle.script.specs.declared.StatementKind.{StatementKind}
-use Rattle.shapes.specs.declared.rule.StmtSurvey.{StmtSurvey}
 use Rattle.shapes.specs.declared.rule.DeclSurvey.{DeclSurvey}
 use Rattle.reading.specs.declared.build.Surveyed.{Surveyed}
 use Rattle.records.specs.declared.record.ExprRecord.{ExprRecord}
 use Rattle.records.specs.declared.record.StmtRecord.{StmtRecord}
 use Rattle.records.specs.declared.record.DeclRecord.{DeclRecord}
-use Rattle.records.specs.Heap.{Heap, Place, expr_at, stmt_at, decl_at, Label, stmt_label, decl_label, cell, blank_stmt, blank_decl, expr_cell, blank_expr}
+use Rattle.records.specs.Heap.{Heap, expr_at, Label, stmt_label, blank_stmt, blank_decl}
 use Rattle.records.specs.Rows.{Row, end, node, At, row_length}
 use Rattle.records.specs.Owned.{Short}
-use Rattle.shapes.specs.Shape.{survey, surveyed, first_declared, decl_survey, kind_declared, is_case, lexical_option}
+use Rattle.shapes.specs.Shape.{survey, surveyed, decl_survey, kind_declared, is_case, lexical_option}
 use Rattle.records.specs.Flags.{one_if}
 use Rattle.records.specs.Turning.{front}
 use Rattle.reading.specs.Surveying.{Surveys, SurveyedAs, DeclSurveys}

@@ -1,37 +1,33 @@
 -- Putting what a command makes is what its judging says: expressions and declarators.
-use Rattle.std.proofs.Common.{◌≡◌, ℕ, zero, suc, ◌+◌, ◌-◌, ◌<◌, ◌≤◌, ◌≢◌, ◌⊎◌, List, [], ◌∷◌, map, length, get_or, Ok, Err, Result, sym, refl, ap, ◌∙◌, subst, inl, inr, arith}
-use lib.ListN.{length-map}
+use Rattle.std.proofs.Common.{◌≡◌, ℕ, zero, suc, ◌-◌, ◌<◌, ◌≤◌, List, [], ◌∷◌, length, Ok, Err, Result, sym, refl, ap, ◌∙◌, subst, inl, inr, arith}
 use Rattle.pool.specs.Chain.{nowhere, Chain, places}
 use Rattle.pool.specs.declared.Pool.{Pool}
-use Rattle.pool.specs.declared.PoolFault.TheVariants.{Empty, Outside}
+use Rattle.pool.specs.declared.PoolFault.TheVariants.{Empty}
 use Rattle.pool.proofs.Chains.{chain_first, chain_rest, places_first}
 use Rattle.script.specs.declared.Table.{Table}
-use Rattle.script.specs.declared.Table.TheVariants.{Expressions, Statements, Declarators}
+use Rattle.script.specs.declared.Table.TheVariants.{Expressions, Declarators}
 use Rattle.script.specs.declared.ExpressionKind.{ExpressionKind}
-use Rattle.script.specs.Format.{no_spare, too_few}
+use Rattle.script.specs.Format.{no_spare}
 use Rattle.script.specs.Stacks.{Declarator, Stacks, Performed, lacks, misplaces, puts_expr, puts_item, puts_declarator, puts_body}
-use Rattle.script.specs.Judge.{Model, Spares, Verdict, turned_away, taken, spend, settled, between, push_expr, push_item, push_declarator}
-use Rattle.script.specs.Sound.{SoundModel}
+use Rattle.script.specs.Judge.{Model, Spares, Verdict, turned_away, spend, settled, between, push_expr, push_declarator}
 use Rattle.faults.specs.declared.fault.SheetFault.{SheetFault}
 use Rattle.faults.specs.declared.fault.SheetFault.TheVariants.{Spares as SparesFault}
 use Rattle.faults.specs.declared.fault.ReadFault.{ReadFault}
-use Rattle.faults.specs.declared.fault.ReadFault.TheVariants.{Sheet, TooFew}
+use Rattle.faults.specs.declared.fault.ReadFault.TheVariants.{Sheet}
 use Rattle.reading.specs.declared.making.Making.TheVariants as makes
-use Rattle.records.specs.declared.record.Pools.{Pools}
 use Rattle.records.specs.declared.record.Draft.{Draft}
 use Rattle.records.specs.declared.record.ExprRecord.{ExprRecord}
 use Rattle.records.specs.declared.record.StmtRecord.{StmtRecord}
 use Rattle.records.specs.declared.record.DeclRecord.{DeclRecord}
-use Rattle.records.specs.Heap.{Heap, Place, expr_at, stmt_at, decl_at, expr_label, stmt_label, decl_label, expr_links, stmt_links, decl_links}
-use Rattle.records.specs.Rows.{Row, end, node, row_length}
+use Rattle.records.specs.Heap.{Heap, expr_at, stmt_at, decl_at, expr_label, decl_label, expr_links, decl_links}
+use Rattle.records.specs.Rows.{end, node, row_length}
 use Rattle.records.specs.Owned.{Root, Owns}
 use Rattle.records.specs.Embedding.{expr_row, expr_stack, stmt_stack, decl_stack, declarator_row}
-use Rattle.records.specs.Turning.{Turned, front, behind, turned_exprs}
-use Rattle.reading.specs.Making.{Matches, Left, Enough}
-use Rattle.reading.specs.Building.{HasSpare, NoSpare, without_first, NotPut, PutExpr, PutDeclarator, expr_put, declarator_put, draft_with_expr, draft_with_declarator}
-use Rattle.records.specs.Holds.{Holds, roots, body_root, counted, SameStage}
+use Rattle.records.specs.Turning.{front, behind, turned_exprs}
+use Rattle.reading.specs.Making.{Matches}
+use Rattle.reading.specs.Building.{NoSpare, without_first, PutExpr, PutDeclarator, expr_put, declarator_put, draft_with_expr, draft_with_declarator}
+use Rattle.records.specs.Holds.{Holds, body_root}
 use Rattle.reading.specs.Judged.{Judged}
-use Rattle.faults.specs.Faults.{fault_of, tag_of}
 use Rattle.records.proofs.Moves.{end_in, pick}
 use Rattle.records.proofs.Writes.{take_expr, take_decl, relink_expr, relink_decl}
 use Rattle.records.proofs.TurnedOwned.{turned_exprs_owned}

@@ -1,36 +1,35 @@
 -- Putting what a command makes is what its judging says: statements and the body.
-use Rattle.std.proofs.Common.{◌≡◌, ℕ, zero, suc, ◌+◌, ◌-◌, ◌<◌, ◌≤◌, Bool, true, false, ◌≢◌, ◌⊎◌, List, [], ◌∷◌, length, Ok, Err, Result, sym, refl, ap, ◌∙◌, subst, inl, inr, arith}
+use Rattle.std.proofs.Common.{◌≡◌, ℕ, suc, ◌-◌, ◌≤◌, Bool, true, false, List, [], ◌∷◌, length, Ok, Err, Result, sym, refl, ap, ◌∙◌, subst, inl, inr, arith}
 use Rattle.pool.specs.Chain.{nowhere}
-use Rattle.script.specs.declared.Table.TheVariants.{Expressions, Statements, Declarators}
+use Rattle.script.specs.declared.Table.TheVariants.{Statements}
 use Rattle.script.specs.declared.StatementKind.{StatementKind}
-use Rattle.script.specs.Format.{no_spare, too_few, leftover}
+use Rattle.script.specs.Format.{leftover}
 use Rattle.script.specs.Tree.{Stmt, empty, expression, declaration, return_of, throw, if_then, block, while, do_while, for, switch, break, continue, Stmts}
-use Rattle.script.specs.Stacks.{Item, statement, case, Declarator, declarator, Stacks, no_items, Performed, lacks, misplaces, puts_expr, puts_item, puts_declarator, puts_body}
-use Rattle.script.specs.Judge.{Model, Spares, complete, Verdict, turned_away, taken, settled, between, push_item, alone}
+use Rattle.script.specs.Stacks.{Item, statement, case, Declarator, declarator, Stacks, Performed, lacks, misplaces, puts_expr, puts_item, puts_declarator, puts_body}
+use Rattle.script.specs.Judge.{Model, complete, Verdict, turned_away, taken, settled, between, push_item, alone}
 use Rattle.faults.specs.declared.fault.ReadFault.{ReadFault}
-use Rattle.faults.specs.declared.fault.ReadFault.TheVariants.{Sheet, TooFew}
+use Rattle.faults.specs.declared.fault.ReadFault.TheVariants.{Sheet}
 use Rattle.reading.specs.declared.making.Making.TheVariants as makes
 use Rattle.reading.specs.declared.build.Parts.{Parts}
 use Rattle.records.specs.declared.record.Draft.{Draft}
 use Rattle.records.specs.declared.record.ExprRecord.{ExprRecord}
 use Rattle.records.specs.declared.record.StmtRecord.{StmtRecord}
 use Rattle.records.specs.declared.record.DeclRecord.{DeclRecord}
-use Rattle.records.specs.Heap.{Heap, Place, expr_at, stmt_at, decl_at, stmt_label, expr_links, stmt_links, decl_links}
+use Rattle.records.specs.Heap.{Heap, expr_at, stmt_at, decl_at, stmt_label, stmt_links}
 use Rattle.records.specs.Rows.{Row, end, node, row_length}
 use Rattle.records.specs.Owned.{Root, Owns}
-use Rattle.records.specs.Embedding.{stmt_row, item_row, expr_stack, stmt_stack, decl_stack, stmts_row}
-use Rattle.shapes.specs.Shape.{survey}
-use Rattle.records.specs.Turning.{Turned, front, behind, turned_exprs, turned_stmts, turned_decls}
-use Rattle.reading.specs.Making.{Matches, Left, Enough, Wanting, fitting}
+use Rattle.records.specs.Embedding.{stmt_row, item_row, expr_stack, stmt_stack, decl_stack}
+use Rattle.records.specs.Turning.{front, behind, turned_exprs, turned_stmts, turned_decls}
+use Rattle.reading.specs.Making.{Matches, Enough, Wanting}
 use Rattle.reading.specs.Surveying.{Stacked}
-use Rattle.reading.specs.Building.{HasSpare, NoSpare, without_first, EnoughCounted, WantingCounted, FitsAs, PutStmt, stmt_put, draft_with_stmt, with_stmt_taken, AloneCounted, PutBody, draft_with_body}
-use Rattle.records.specs.Holds.{Holds, roots, body_root, counted}
+use Rattle.reading.specs.Building.{without_first, EnoughCounted, WantingCounted, PutStmt, stmt_put, draft_with_stmt, with_stmt_taken, PutBody, draft_with_body}
+use Rattle.records.specs.Holds.{Holds, body_root}
 use Rattle.reading.specs.Judged.{Judged}
 use Rattle.records.proofs.Moves.{end_in, pick}
 use Rattle.records.proofs.Writes.{take_stmt, relink_stmt}
 use Rattle.records.proofs.TurnedOwned.{turned_exprs_owned, turned_stmts_owned, turned_decls_owned}
 use Rattle.shapes.proofs.Decoding.{expr_stack_length, no_items_left}
-use Rattle.reading.proofs.Performed.{before, working, spares_of, spare_places, spare_chain, lacking, spent_none, spent_one}
+use Rattle.reading.proofs.Performed.{working, spares_of, spare_places, spare_chain, lacking, spent_none, spent_one}
 
 -- an item is one record in its row
 stmt_row_length : (s : Stmt) (w : Row) → row_length (stmt_row s w) ≡ suc (row_length w)

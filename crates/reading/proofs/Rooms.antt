@@ -1,5 +1,5 @@
 -- What a draft that is held leaves room for: its counts are below the number of records.
-use Rattle.std.proofs.Common.{◌≡◌, ℕ, ◌+◌, ◌<◌, ◌≤◌, List, [], ◌∷◌, length, sym, refl, ap, ◌∙◌, subst, arith}
+use Rattle.std.proofs.Common.{◌≡◌, ℕ, ◌<◌, [], refl, arith}
 use Rattle.pool.specs.Chain.{nowhere}
 use Rattle.script.specs.declared.Awaiting.{Awaiting}
 use Rattle.script.specs.Judge.{Stage as ModelStage, reading, complete, Model}
@@ -9,7 +9,7 @@ use Rattle.records.specs.declared.record.Draft.{Draft}
 use Rattle.records.specs.Heap.{Heap}
 use Rattle.records.specs.Owned.{Limited}
 use Rattle.records.specs.Embedding.{expr_stack, stmt_stack, decl_stack}
-use Rattle.records.specs.Holds.{Holds, Reads, body_root}
+use Rattle.records.specs.Holds.{Holds, body_root}
 use Rattle.records.proofs.Moves.{pick}
 use Rattle.records.proofs.Sizes.{owned_size, row_size}
 use Rattle.shapes.proofs.Decoding.{expr_stack_length}

@@ -1,5 +1,5 @@
 -- What a pool's answer says of its spares.
-use Rattle.std.proofs.Common.{◌≡◌, ℕ, ◌<◌, ◌≤◌, Bool, true, false, eqb, ltb, ◌⊎◌, List, length, Ok, Err, Result, sym, refl, ap, ◌∙◌, inl, inr, arith, ltb-false, ltb-true, eqb-true}
+use Rattle.std.proofs.Common.{◌≡◌, ℕ, Bool, true, false, eqb, ltb, List, length, Ok, Err, refl, ap, ◌∙◌, inl, inr, arith, ltb-false, ltb-true, eqb-true}
 use borrow.Author.Tests.{eqb-false}
 use Rattle.pool.specs.declared.Pool.{Pool}
 use Rattle.pool.specs.declared.PoolFault.{PoolFault}
@@ -7,7 +7,7 @@ use Rattle.pool.specs.declared.PoolFault.TheVariants.{Empty, Outside}
 use Rattle.pool.specs.Answers.{taken, pool_after}
 use Rattle.faults.specs.declared.fault.SheetFault.{SheetFault}
 use Rattle.faults.specs.declared.fault.SheetFault.TheVariants.{Spares}
-use Rattle.reading.specs.Building.{HasSpare, NoSpare, without_first, Took}
+use Rattle.reading.specs.Building.{Took}
 
 module _ (tag : ℕ) (links : List ℕ) (p p' : Pool) (after : p' ≡ pool_after links p) where
   pub took : (at : ℕ) → Ok at ≡ taken tag links p → Took (Ok at) tag links p p'

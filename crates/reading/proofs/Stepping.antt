@@ -1,5 +1,5 @@
 -- One byte, from what is awaited to what is judged.
-use Rattle.std.proofs.Common.{◌≡◌, ℕ, ◌<◌, ◌≤◌, Bool, true, false, eqb, ltb, List, [], ◌∷◌, Ok, Err, Result, sym, refl, ap, ◌∙◌, subst, arith, ltb-false}
+use Rattle.std.proofs.Common.{◌≡◌, ℕ, ◌<◌, Bool, true, false, eqb, ltb, List, [], ◌∷◌, Ok, Err, Result, sym, refl, ap, ◌∙◌, subst, arith, ltb-false}
 use mathlib.Core.Option.{Option, none, some}
 use Rattle.script.specs.declared.Code.{Code}
 use Rattle.script.specs.declared.Code.TheVariants as code
@@ -11,11 +11,9 @@ use Rattle.script.specs.declared.Command.{Command}
 use Rattle.script.specs.Format.{Refusal, body_complete, Lexed, refused, awaits, ends, lexed, begun, begun_or_none, code_of, listed, count_ends, two, word_of, operator_of, kind_of, head_of, flag_of}
 use Rattle.script.specs.Judge.{Stage as ModelStage, reading, complete, Model, Verdict, turned_away, taken, judge, judge_at, after_lexing, settled}
 use Rattle.script.specs.Stacks.{Stacks, perform}
-use Rattle.script.specs.Sound.{SoundModel}
 use Rattle.script.proofs.Keeping.{taken_keeps_sound}
 use Rattle.faults.specs.declared.fault.ReadFault.{ReadFault}
 use Rattle.faults.specs.declared.fault.ReadFault.TheVariants.{BodyComplete}
-use Rattle.reading.specs.declared.reader.Step.{Step}
 use Rattle.reading.specs.declared.reader.Step.TheVariants.{Await, Perform}
 use Rattle.records.specs.declared.record.Stage.{Stage}
 use Rattle.records.specs.declared.record.Stage.TheVariants.{Reading, Complete}
@@ -26,7 +24,7 @@ use Rattle.records.specs.Embedding.{expr_stack, stmt_stack, decl_stack}
 use Rattle.reading.specs.Making.{Listed}
 use Rattle.reading.specs.Steps.{told}
 use Rattle.faults.specs.Faults.{fault_of}
-use Rattle.records.specs.Holds.{Holds, Reads, SameStage, body_root}
+use Rattle.records.specs.Holds.{Holds, Reads, SameStage}
 use Rattle.reading.specs.Judged.{Judged, Stepped}
 use Rattle.reading.proofs.Rooms.{no_body_yet}
 

@@ -1,5 +1,5 @@
 -- What putting a record does to the draft and the tables, number by number.
-use Rattle.std.specs.Prelude.{◌≡◌, ℕ, ◌+◌, ◌-◌, ◌<◌, ◌≤◌, Bool, true, false, ◌⊎◌, List, [], ◌∷◌, length, set, Ok, Err, Result, ◌≢◌, slice_index, slice_set}
+use Rattle.std.specs.Prelude.{◌≡◌, ℕ, ◌+◌, ◌-◌, ◌<◌, ◌≤◌, Bool, true, false, ◌⊎◌, List, length, set, Ok, Err, Result, ◌≢◌, slice_index, slice_set}
 use Rattle.pool.specs.Chain.{nowhere}
 use Rattle.pool.specs.declared.Pool.{Pool}
 use Rattle.pool.specs.declared.PoolFault.TheVariants.{Empty, Outside}

@@ -1,7 +1,6 @@
 -- The code's answer to a byte is the judging of it, and the tables hold what was judged.
-use Rattle.std.specs.Prelude.{◌≡◌, ℕ, List, Ok, Err, Result}
-use Rattle.script.specs.Format.{Refusal}
-use Rattle.script.specs.Judge.{Model, Verdict, turned_away, taken, Fed, all_taken, stopped}
+use Rattle.std.specs.Prelude.{◌≡◌, ℕ, Ok, Err, Result}
+use Rattle.script.specs.Judge.{Verdict, turned_away, taken, Fed, all_taken, stopped}
 use Rattle.script.specs.Sound.{SoundModel}
 use Rattle.faults.specs.declared.fault.ReadFault.{ReadFault}
 use Rattle.reading.specs.declared.judging.Taken.{Taken}

@@ -1,12 +1,11 @@
 -- What a whole command makes, by its kind and the numbers of its parts, and that this is what performing it puts.
-use Rattle.std.specs.Prelude.{◌≡◌, ℕ, zero, suc, ◌+◌, ◌<◌, ◌≤◌, Bool, true, false, ◌⊎◌, List, [], ◌∷◌, length, ◌≢◌}
-use Rattle.script.specs.declared.ExpressionKind.{ExpressionKind}
+use Rattle.std.specs.Prelude.{◌≡◌, ℕ, ◌+◌, ◌<◌, ◌≤◌, Bool, true, false, ◌⊎◌, List, length, ◌≢◌}
 use Rattle.script.specs.declared.ExpressionKind.TheVariants as expression
 use Rattle.script.specs.declared.StatementKind.{StatementKind}
 use Rattle.script.specs.declared.StatementKind.TheVariants as kind
 use Rattle.script.specs.declared.Command.{Command}
 use Rattle.script.specs.declared.Command.TheVariants as command
-use Rattle.script.specs.Tree.{Expr, Stmts}
+use Rattle.script.specs.Tree.{Expr}
 use Rattle.script.specs.Stacks.{Item, Declarator, Stacks, Performed, lacks, misplaces, puts_expr, puts_item, puts_declarator, puts_body}
 use Rattle.reading.specs.declared.making.Making.{Making}
 use Rattle.reading.specs.declared.making.Making.TheVariants as makes

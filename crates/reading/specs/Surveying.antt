@@ -9,7 +9,7 @@ use Rattle.records.specs.declared.record.Draft.{Draft}
 use Rattle.records.specs.declared.record.ExprRecord.{ExprRecord}
 use Rattle.records.specs.declared.record.StmtRecord.{StmtRecord}
 use Rattle.records.specs.declared.record.DeclRecord.{DeclRecord}
-use Rattle.records.specs.Heap.{Heap, stmt_at, decl_at}
+use Rattle.records.specs.Heap.{stmt_at, decl_at}
 use Rattle.records.specs.Rows.{Row, At, row_length}
 use Rattle.records.specs.Owned.{Short}
 use Rattle.shapes.specs.Shape.{no_survey, survey, first_declared, decl_survey}

@@ -1,4 +1,6 @@
 // Reading: a byte is lexed, a whole command takes its parts off the stacks, and what it makes goes on one of them.
+#![tactic(auto)]
+
 mod build;
 mod judging;
 mod making;

@@ -1,5 +1,5 @@
 -- Every record of the tables is loose, or one of the roots' rows, or spare.
-use Rattle.std.proofs.Common.{◌≡◌, ◌+◌, List, [], ◌∷◌, length, sym, refl, ◌∙◌, arith}
+use Rattle.std.proofs.Common.{◌≡◌, ◌+◌, List, [], ◌∷◌, length, sym, ◌∙◌}
 use Rattle.script.specs.Judge.{Spares}
 use Rattle.script.specs.Sound.{none_used, plus}
 use Rattle.records.specs.declared.record.Pools.{Pools}

@@ -1,11 +1,10 @@
 -- Moves of ownership: open a row into its first place and its parts, close it again, bring a root to the front.
-use Rattle.std.proofs.Common.{◌≡◌, ℕ, zero, suc, ◌+◌, ◌<◌, ◌≤◌, ◌≢◌, List, [], ◌∷◌, sym, refl, ap, ◌∙◌, subst, arith}
-use Rattle.pool.specs.Chain.{nowhere}
+use Rattle.std.proofs.Common.{◌≡◌, ℕ, zero, suc, ◌+◌, List, [], ◌∷◌, sym, refl, ap, ◌∙◌, subst, arith}
 use Rattle.pool.proofs.Chains.{same_place_self}
 use Rattle.records.specs.declared.record.Pools.{Pools}
 use Rattle.records.specs.Heap.{Heap, Place, expr_at, stmt_at, decl_at, Label, Cell, cell, Within, Nowhere, same, spare}
 use Rattle.records.specs.Rows.{Row, end, node, At, uses}
-use Rattle.records.specs.Owned.{Root, Held, uses_all, Inside, loose_at, Short, Chains, Owns}
+use Rattle.records.specs.Owned.{Root, Held, uses_all, Inside, Short, Chains, Owns}
 
 pub same_self : (k : Place) → same k k ≡ 1
 same_self (expr_at i) = same_place_self i

@@ -1,5 +1,5 @@
 -- Who owns the records of a row after its first ones were turned: they are a row of their own.
-use Rattle.std.proofs.Common.{◌≡◌, ℕ, zero, suc, ◌<◌, ◌≤◌, List, [], ◌∷◌, map, length, get_or, set, sym, refl, ap, ◌∙◌, subst, arith, get_or-set_same}
+use Rattle.std.proofs.Common.{◌≡◌, ℕ, zero, suc, ◌<◌, ◌≤◌, List, ◌∷◌, map, length, get_or, set, sym, ap, ◌∙◌, subst, arith, get_or-set_same}
 use Rattle.std.proofs.lemmas.List.{get_or-map}
 use Rattle.pool.specs.Chain.{modify}
 use Rattle.pool.proofs.Chains.{set_modify}

@@ -1,7 +1,7 @@
 -- One step of taking records off a row, by their links.
-use Rattle.std.proofs.Common.{◌≡◌, ℕ, zero, suc, ◌<◌, ◌≤◌, true, false, ltb, List, [], ◌∷◌, map, length, get_or, sym, refl, ap, ◌∙◌, arith, le-ltb, lt-ltb}
+use Rattle.std.proofs.Common.{◌≡◌, ℕ, zero, suc, ◌<◌, ◌≤◌, true, false, ltb, List, map, length, get_or, refl, le-ltb, lt-ltb}
 use Rattle.pool.specs.Chain.{modify}
-use Rattle.records.specs.Turning.{Turned, turned}
+use Rattle.records.specs.Turning.{turned}
 
 module _ {R : Type 0} (link : R → ℕ) (relinked : R → ℕ → R) where
   pub turned_step : (n : ℕ) (t : List R) (rest row : ℕ) → rest < length t →

@@ -1,5 +1,5 @@
 -- Writing one record of a table, and taking one from its pool.
-use Rattle.std.proofs.Common.{◌≡◌, ℕ, zero, suc, ◌+◌, ◌-◌, ◌<◌, ◌≤◌, List, [], ◌∷◌, map, length, get_or, set, sym, refl, ap, ◌∙◌, subst, arith, length-set, get_or-set_other, get_or-set_same}
+use Rattle.std.proofs.Common.{◌≡◌, ℕ, ◌+◌, List, ◌∷◌, set, refl, ap, ◌∙◌, arith, length-set, get_or-set_other, get_or-set_same}
 use lib.ListN.{length-map}
 use lib.Seq.{map-set}
 use Rattle.pool.specs.Chain.{nowhere, same_place, occurrences, Chain, places}
@@ -9,10 +9,10 @@ use Rattle.records.specs.declared.record.Pools.{Pools}
 use Rattle.records.specs.declared.record.ExprRecord.{ExprRecord}
 use Rattle.records.specs.declared.record.StmtRecord.{StmtRecord}
 use Rattle.records.specs.declared.record.DeclRecord.{DeclRecord}
-use Rattle.records.specs.Heap.{Heap, Place, expr_at, stmt_at, decl_at, Label, Cell, cell, expr_cell, stmt_cell, decl_cell, Within, Nowhere, same}
+use Rattle.records.specs.Heap.{Heap, Place, expr_at, stmt_at, decl_at, Label, cell, expr_cell, stmt_cell, decl_cell, Within, same}
 use Rattle.records.specs.Heap.{expr_links, stmt_links, decl_links, spare, blank_expr, blank_stmt, blank_decl}
-use Rattle.records.specs.Rows.{Row, end, node, At, uses}
-use Rattle.records.specs.Owned.{Root, uses_all, loose_at, Short, Chains, Owns}
+use Rattle.records.specs.Rows.{Row, end, node}
+use Rattle.records.specs.Owned.{Root, uses_all, loose_at, Owns}
 use Rattle.records.proofs.Moves.{Off, write, closed, loose_spare, end_in, pick}
 
 -- the table of expressions

@@ -1,8 +1,7 @@
 -- The trees of a script as rows of records. Each function puts a tree in front of a row.
-use Rattle.std.specs.Prelude.{ℕ, Bool, true, false, List, [], ◌∷◌}
+use Rattle.std.specs.Prelude.{Bool, true, false, List, [], ◌∷◌}
 use Rattle.script.specs.declared.ExpressionKind.TheVariants as expression
 use Rattle.script.specs.declared.DeclarationKind.{DeclarationKind}
-use Rattle.script.specs.declared.StatementKind.{StatementKind}
 use Rattle.script.specs.declared.StatementKind.TheVariants as kind
 use Rattle.script.specs.declared.ForInit.{ForInit}
 use Rattle.script.specs.declared.ForInit.TheVariants as init

@@ -1,5 +1,5 @@
 -- Tables hold a sheet: its trees are there, every record is reached once, no part breaks a rule, and its counts are those found.
-use Rattle.std.specs.Prelude.{◌≡◌, ℕ, List, [], ◌∷◌, length}
+use Rattle.std.specs.Prelude.{◌≡◌, List, [], ◌∷◌, length}
 use Rattle.script.specs.declared.Awaiting.{Awaiting}
 use Rattle.script.specs.Tree.{Stmts}
 use Rattle.script.specs.Stacks.{Stacks, no_items}

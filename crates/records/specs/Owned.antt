@@ -1,5 +1,5 @@
 -- Who owns the records: each is used once, by a root's row, by a chain of spares, or as a loose place.
-use Rattle.std.specs.Prelude.{◌≡◌, ℕ, ◌+◌, ◌≤◌, List, [], ◌∷◌, ◌++◌, length}
+use Rattle.std.specs.Prelude.{◌≡◌, ℕ, ◌+◌, ◌≤◌, List, [], ◌∷◌, length}
 use Rattle.pool.specs.Chain.{nowhere, Chain}
 use Rattle.records.specs.declared.record.Pools.{Pools}
 use Rattle.records.specs.Heap.{Heap, Place, Within, same, expr_links, stmt_links, decl_links, spare}

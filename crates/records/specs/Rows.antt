@@ -1,6 +1,6 @@
 -- Rows of records as trees, and where a heap holds one.
-use Rattle.std.specs.Prelude.{◌≡◌, ℕ, zero, suc, ◌+◌}
-use Rattle.records.specs.Heap.{Heap, Place, Label, Cell, cell, Within, Nowhere, same}
+use Rattle.std.specs.Prelude.{◌≡◌, ℕ, suc, ◌+◌}
+use Rattle.records.specs.Heap.{Heap, Place, Label, cell, Within, Nowhere, same}
 
 -- a row: none, or a first record with its label and its rows of expressions, statements and declarators, and the others
 pub data Row : Type 0 where

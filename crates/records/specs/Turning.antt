@@ -1,5 +1,5 @@
 -- Taking the first records off a row: they come in the opposite order.
-use Rattle.std.specs.Prelude.{ℕ, zero, suc, cond, List, [], ◌∷◌, map, length, nat_lt, slice_index}
+use Rattle.std.specs.Prelude.{ℕ, zero, suc, cond, List, map, length, nat_lt, slice_index}
 use Rattle.pool.specs.Chain.{modify}
 use Rattle.records.specs.declared.record.ExprRecord.{ExprRecord}
 use Rattle.records.specs.declared.record.StmtRecord.{StmtRecord}

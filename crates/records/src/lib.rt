@@ -1,5 +1,7 @@
 // The records of the three tables, the sheet's own numbers, and the turning of a row.
 // What it means that tables hold trees stands in specs/: rows, who owns a record, and what a sheet holds.
+#![tactic(auto)]
+
 mod record;
 mod turning;
 

@@ -1,5 +1,5 @@
 -- What the rules on `if` execute.
-use Rattle.std.proofs.Common.{◌≡◌, Bool, true, false, cond, not as negated, T, sym, refl, ap, ◌∙◌, subst}
+use Rattle.std.proofs.Common.{◌≡◌, Bool, true, false, cond, not as negated, sym, refl, ap, ◌∙◌}
 use Rattle.script.specs.declared.LogicalOperator.TheVariants.{And, Or}
 use Rattle.script.specs.Tree.{Expr, not, expression, Stmt, if_then, alternate, Alternate, no_alternate, empty}
 use Rattle.run.specs.Values.{to_boolean, Value}

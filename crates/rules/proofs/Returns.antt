@@ -1,5 +1,5 @@
 -- What the rule on return executes.
-use Rattle.std.proofs.Common.{◌≡◌, Bool, true, false, cond, T, sym, refl, ap, ◌∙◌, subst}
+use Rattle.std.proofs.Common.{◌≡◌, Bool, true, false, cond, sym, refl, ap, ◌∙◌}
 use Rattle.script.specs.Tree.{OptionalExpr, absent, present, return_of, Expr, if_then, no_alternate, expression, Stmts, stmt_then, Stmt}
 use Rattle.script.specs.Tree.{no_stmts}
 use Rattle.run.specs.Values.{undefined, to_boolean, Value}

@@ -1,5 +1,5 @@
 -- Bodies with what they must not be fused to.
-use Rattle.std.specs.Prelude.{◌≡◌, List, [], ◌∷◌, ◌≢◌}
+use Rattle.std.specs.Prelude.{List, [], ◌∷◌, ◌≢◌}
 use Rattle.std.proofs.Math.Option.{none}
 use Rattle.script.specs.declared.DeclarationKind.TheVariants.{Let}
 use Rattle.script.specs.declared.LogicalOperator.TheVariants.{And}

@@ -1,4 +1,6 @@
 // The rules of fusing, on trees: see specs/.
+#![tactic(auto)]
+
 mod laws;
 
 pub use laws::{

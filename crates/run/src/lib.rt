@@ -1,4 +1,6 @@
 // What a body does when it is run. The definition stands in specs/; its laws are proved here, on functions that do nothing.
+#![tactic(auto)]
+
 mod laws;
 
 pub use laws::{

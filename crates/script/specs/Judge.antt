@@ -1,12 +1,11 @@
 -- The judging of a byte: what a draft holds, and what the next byte makes of it.
-use Rattle.std.specs.Prelude.{Bool, true, false, cond, List, [], ◌∷◌, ℕ, zero, suc, ◌+◌}
+use Rattle.std.specs.Prelude.{List, [], ◌∷◌, ℕ, zero, suc}
 use Rattle.script.specs.declared.Awaiting.{Awaiting}
 use Rattle.script.specs.declared.Awaiting.TheVariants as awaiting
-use Rattle.script.specs.declared.Command.{Command}
 use Rattle.script.specs.declared.Table.{Table}
 use Rattle.script.specs.declared.Table.TheVariants.{Expressions, Statements, Declarators}
 use Rattle.script.specs.Tree.{Expr, Stmts}
-use Rattle.script.specs.Format.{Refusal, body_complete, no_command, bad_operand, too_few, misplaced, leftover, no_spare}
+use Rattle.script.specs.Format.{Refusal, body_complete, too_few, misplaced, leftover, no_spare}
 use Rattle.script.specs.Format.{Lexed, refused, awaits, ends, lexed}
 use Rattle.script.specs.Stacks.{Item, Declarator, Stacks, no_items, Performed, lacks, misplaces, puts_expr, puts_item, puts_declarator, puts_body, perform}
 

@@ -1,14 +1,14 @@
 -- What is true of reading, judging and writing together.
 use Rattle.std.specs.Prelude.{◌≡◌, Bool, true, false, List, [], ◌∷◌, ◌++◌, ℕ, ◌<◌, take}
-use Rattle.std.proofs.Math.Option.{Option, none, some}
+use Rattle.std.proofs.Math.Option.{none, some}
 use Rattle.script.specs.declared.Counted.{Counted}
 use Rattle.script.specs.declared.Counted.TheVariants as counted
 use Rattle.script.specs.declared.Awaiting.{Awaiting}
 use Rattle.script.specs.declared.Awaiting.TheVariants as awaiting
 use Rattle.script.specs.Tree.{Stmts}
-use Rattle.script.specs.Stacks.{Stacks, no_items}
-use Rattle.script.specs.Judge.{Stage, reading, complete, Spares, Model, fresh, Verdict, taken, judge, Fed, all_taken, stopped, judge_all}
-use Rattle.script.specs.Reading.{Reading, nothing_read, read_byte, read_all, plain_reading}
+use Rattle.script.specs.Stacks.{no_items}
+use Rattle.script.specs.Judge.{Stage, reading, complete, Spares, Model, fresh, taken, judge, Fed, all_taken, stopped, judge_all}
+use Rattle.script.specs.Reading.{Reading, read_byte, read_all, plain_reading}
 use Rattle.script.specs.Sound.{SoundStmts, SoundModel, plus, records_stmts}
 use Rattle.script.specs.Written.{body_bytes, kind_byte}
 

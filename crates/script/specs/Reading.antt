@@ -1,5 +1,5 @@
 -- The plain reading: what accepted bytes spell. It knows no refusals: bytes join the begun command, and the last one ends it.
-use Rattle.std.specs.Prelude.{Bool, true, false, cond, List, [], ◌∷◌, ◌++◌, ℕ, length, get_or, eqb}
+use Rattle.std.specs.Prelude.{true, false, cond, List, [], ◌∷◌, ◌++◌, ℕ, length, get_or, eqb}
 use Rattle.std.proofs.Math.Option.{Option, none, some}
 use Rattle.script.specs.declared.Code.{Code}
 use Rattle.script.specs.declared.Code.TheVariants as code

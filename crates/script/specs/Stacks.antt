@@ -1,15 +1,14 @@
 -- What a whole command takes off the three stacks and puts back. The top of a stack stands first in its list.
-use Rattle.std.specs.Prelude.{Bool, true, false, cond, ◌&&◌, not as negated, List, [], ◌∷◌, ℕ, zero, suc, ◌+◌, leb}
+use Rattle.std.specs.Prelude.{Bool, true, false, ◌&&◌, not as negated, List, [], ◌∷◌, ℕ, zero, suc, leb}
 use Rattle.script.specs.declared.DeclarationKind.{DeclarationKind}
 use Rattle.script.specs.declared.DeclarationKind.TheVariants.{Var, Let, Const}
 use Rattle.script.specs.declared.ForInit.{ForInit}
 use Rattle.script.specs.declared.ForInit.TheVariants as init
-use Rattle.script.specs.declared.ForHead.{ForHead}
 use Rattle.script.specs.declared.Command.{Command}
 use Rattle.script.specs.declared.Command.TheVariants as command
 use Rattle.script.specs.Tree.{Expr, number, word, name, assignment, call, sequence, conditional, logical, not, void, strict_equality}
 use Rattle.script.specs.Tree.{Exprs, no_exprs, expr_then, OptionalExpr, absent, present, Declarators, no_declarators, declarator_then}
-use Rattle.script.specs.Tree.{Init, no_init, init_expression, init_declaration, Alternate, no_alternate, alternate}
+use Rattle.script.specs.Tree.{Init, no_init, init_expression, init_declaration, no_alternate, alternate}
 use Rattle.script.specs.Tree.{Stmt, empty, expression, declaration, return_of, throw, if_then, block, while, do_while, for, switch, break, continue}
 use Rattle.script.specs.Tree.{Stmts, no_stmts, stmt_then, Cases, no_cases, case_then}
 

@@ -1,5 +1,5 @@
 -- The bytes of a body, parts before their command and in source order. Each function gives the bytes of a part in front of those that follow.
-use Rattle.std.specs.Prelude.{Bool, true, false, List, [], ◌∷◌, ℕ, zero, suc, ◌+◌, ◌/◌, ◌%◌}
+use Rattle.std.specs.Prelude.{List, [], ◌∷◌, ℕ, suc, ◌+◌, ◌/◌, ◌%◌}
 use Rattle.script.specs.declared.Word.{Word}
 use Rattle.script.specs.declared.Word.TheVariants.{False, True, Null}
 use Rattle.script.specs.declared.LogicalOperator.{LogicalOperator}

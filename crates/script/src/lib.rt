@@ -1,5 +1,7 @@
 // The script of a sheet: kinds of expressions and statements, and the commands that spell them.
 // What they mean together stands in specs/: trees, the reading of bytes, their judging and their writing.
+#![tactic(auto)]
+
 mod laws;
 
 pub use laws::{

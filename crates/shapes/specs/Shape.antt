@@ -1,5 +1,5 @@
 -- The rules of feeding on rows of records: which parts a record may have.
-use Rattle.std.specs.Prelude.{◌≡◌, ℕ, zero, suc, ◌+◌, Bool, true, false, cond, ◌&&◌, Some, None, Option, ◌==◌, nat_le}
+use Rattle.std.specs.Prelude.{◌≡◌, ℕ, ◌+◌, Bool, true, false, ◌&&◌, Some, None, Option, ◌==◌, nat_le}
 use Rattle.script.specs.declared.DeclarationKind.{DeclarationKind}
 use Rattle.script.specs.declared.DeclarationKind.TheVariants.{Var, Let, Const}
 use Rattle.script.specs.declared.ExpressionKind.{ExpressionKind}
@@ -13,7 +13,7 @@ use Rattle.script.specs.Stacks.{lexical_kind}
 use Rattle.shapes.specs.declared.rule.StmtSurvey.{StmtSurvey}
 use Rattle.shapes.specs.declared.rule.DeclSurvey.{DeclSurvey}
 use Rattle.records.specs.Flags.{one_if}
-use Rattle.records.specs.Heap.{Label, expr_label, stmt_label, decl_label}
+use Rattle.records.specs.Heap.{expr_label, stmt_label, decl_label}
 use Rattle.records.specs.Rows.{Row, end, node, row_length}
 
 -- an expression of this kind has so many parts

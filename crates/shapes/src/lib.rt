@@ -1,4 +1,6 @@
 // Which parts a record may have, told by counts alone. In specs/ and proofs/: a row of such records is a tree that keeps the rules of feeding.
+#![tactic(auto)]
+
 mod rule;
 
 pub use rule::{

@@ -1,6 +1,5 @@
 -- What the public calls rest on: the sizes, a fresh start, and reading back what was written.
-use Rattle.std.proofs.Common.{◌≡◌, ℕ, ◌+◌, ◌<◌, ◌≤◌, Bool, true, false, ◌&&◌, leb, List, [], ◌∷◌, map, length, Some, None, Ok, Err, sym, refl, ap, ◌∙◌, subst, arith, le-leb, leb-true}
-use lib.ListN.{length-map}
+use Rattle.std.proofs.Common.{◌≡◌, ℕ, ◌+◌, ◌≤◌, true, leb, List, [], ◌∷◌, length, Some, None, Ok, Err, sym, refl, ap, ◌∙◌, subst, arith, le-leb, leb-true}
 use borrow.Author.Tests.{lt-leb}
 use Rattle.faults.specs.declared.fault.SheetFault.TheVariants.{ShortOutput}
 use Rattle.std.specs.List.{range_with_len}
@@ -8,7 +7,6 @@ use Rattle.pool.specs.Chain.{nowhere, Chain, places, occurrences}
 use Rattle.pool.specs.declared.Pool.{Pool}
 use Rattle.pool.proofs.Chains.{occurrences_counting_in}
 use Rattle.script.specs.declared.Awaiting.TheVariants as awaiting
-use Rattle.script.specs.Tree.{Stmts}
 use Rattle.script.specs.Stacks.{Stacks}
 use Rattle.script.specs.Written.{body_bytes}
 use Rattle.script.specs.Judge.{Stage as ModelStage, reading, complete, Model, Spares, fresh, judge_all}
@@ -28,7 +26,7 @@ use Rattle.records.specs.Heap.{Heap, Place, expr_at, stmt_at, decl_at, Within, e
 use Rattle.records.specs.Owned.{Owns}
 use Rattle.records.specs.Embedding.{expr_stack, stmt_stack, decl_stack, stmts_row}
 use Rattle.writing.specs.Bytes.{WrittenOut}
-use Rattle.records.specs.Holds.{Holds, HoldsWhole, counted, SameStage, StandsAlone, body_root}
+use Rattle.records.specs.Holds.{Holds, counted, SameStage, StandsAlone, body_root}
 use Rattle.sheet.specs.Calls.{sizes_fit, lengths, AllSpare, ReadsBack, WritesBytes, ClosesFrom}
 use Rattle.records.proofs.Moves.{end_out}
 use Rattle.shapes.proofs.Surveys.{both}

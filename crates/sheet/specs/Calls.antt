@@ -1,12 +1,12 @@
 -- What the public calls promise, for every input.
-use Rattle.std.specs.Prelude.{◌≡◌, ℕ, ◌+◌, ◌<◌, ◌≤◌, Bool, true, false, ◌&&◌, List, [], ◌∷◌, ◌++◌, length, drop, replicate, Ok, Err, Result, nat_le}
+use Rattle.std.specs.Prelude.{◌≡◌, ℕ, ◌+◌, Bool, true, false, ◌&&◌, List, [], ◌++◌, length, drop, replicate, Ok, Err, Result, nat_le}
 use Rattle.std.proofs.Math.Option.{some}
 use Rattle.std.specs.List.{range_with_len}
 use Rattle.pool.specs.Chain.{places}
 use Rattle.script.specs.Tree.{Stmts}
 use Rattle.script.specs.Stacks.{no_items}
-use Rattle.script.specs.Judge.{Stage as ModelStage, reading, complete, Spares, Model, fresh, Fed, all_taken, stopped, judge_all}
-use Rattle.script.specs.Reading.{Reading, nothing_read, read_all, plain_reading}
+use Rattle.script.specs.Judge.{Stage as ModelStage, reading, complete, Spares, Model, fresh, all_taken, judge_all}
+use Rattle.script.specs.Reading.{Reading, plain_reading}
 use Rattle.script.specs.Laws.{Agrees, AfterFeeding}
 use Rattle.script.specs.Written.{body_bytes}
 use Rattle.faults.specs.declared.fault.SheetFault.{SheetFault}
@@ -16,7 +16,6 @@ use Rattle.records.specs.declared.record.Stage.{Stage}
 use Rattle.records.specs.declared.record.Stage.TheVariants.{Reading as StageReading, Complete}
 use Rattle.records.specs.declared.record.Draft.{Draft}
 use Rattle.records.specs.declared.record.Whole.{Whole}
-use Rattle.reading.specs.declared.judging.Taken.{Taken}
 use Rattle.sheet.specs.declared.feeding.Fed.{Fed as FedSheet}
 use Rattle.sheet.specs.declared.closing.Unclosed.{Unclosed}
 use Rattle.sheet.specs.declared.output.Wrote.{Wrote}

@@ -1,4 +1,6 @@
 // Sheets of script: bytes are fed into record tables that the caller lends, closed, and written back.
+#![tactic(auto)]
+
 mod closing;
 mod copying;
 mod feeding;

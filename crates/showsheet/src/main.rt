@@ -31,6 +31,8 @@
 //     for (; isHeld(); ) ;
 //     if (skipped) message(1, skipped); else if (last) { caption(last, true); } else ;
 //     return shown === count ? true : shown;
+#![tactic(auto)]
+
 mod meaning;
 mod report;
 

@@ -1,5 +1,7 @@
 // How long feed, close and write take at four sizes of a sheet, each twice the one before.
 // Times vary from run to run, so they go to standard error.
+#![tactic(auto)]
+
 use anyhow::anyhow;
 use sheet::{Fed, Unclosed, Wrote};
 use std::alloc::{AllocError, Global};

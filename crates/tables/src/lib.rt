@@ -1,4 +1,6 @@
 // Tables of records made in the heap, for programs that lend them to the calls of `sheet`.
+#![tactic(auto)]
+
 mod pass;
 
 use script::{ExpressionKind, StatementKind, Word};

@@ -1,3 +1,5 @@
+#![tactic(auto)]
+
 // Tests of the calls of `sheet`: every refusal with what it leaves, damaged sheets and tables, and the limits.
 #[cfg(test)]
 mod bytes;

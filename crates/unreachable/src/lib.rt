@@ -1,4 +1,6 @@
 // What is kept behind a jump, a jump at the end of a list, and the results in source order.
+#![tactic(auto)]
+
 mod jumps;
 mod keeping;
 mod noting;

@@ -1,4 +1,3 @@
-use Rattle.std.proofs.Common.{sym, ap}
 use Rattle.moves.proofs.Dropping.{drop_decl}
 use Rattle.moves.proofs.drops.drop_first_decl.Goals as goal
 

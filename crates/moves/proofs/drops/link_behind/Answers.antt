@@ -1,4 +1,4 @@
-use Rattle.std.proofs.Common.{◌≡◌, ℕ, map, set, sym, ap, ◌∙◌, arith}
+use Rattle.std.proofs.Common.{map, set, ap, ◌∙◌, arith}
 use lib.ListN.{length-map}
 use Rattle.pool.specs.Chain.{modify}
 use Rattle.pool.proofs.Chains.{set_modify}

@@ -1,9 +1,9 @@
-use Rattle.std.proofs.Common.{◌≡◌, ℕ, suc, ◌+◌, ◌-◌, ◌<◌, ◌≤◌, List, ◌∷◌, map, length, get_or, set, sym, refl, ap, ◌∙◌, subst, arith, rules}
+use Rattle.std.proofs.Common.{◌≡◌, suc, ◌+◌, ◌-◌, ◌<◌, ◌∷◌, map, length, get_or, set, sym, refl, ap, ◌∙◌, arith}
 use lib.ListN.{length-map}
 use lib.Seq.{map-set}
 use Rattle.std.specs.List.{range_with_len}
 use Rattle.pool.proofs.Chains.{chain_push, places_push, occurrences_counting}
-use Rattle.pool.specs.Chain.{Chain, places, occurrences, nowhere}
+use Rattle.pool.specs.Chain.{places, occurrences}
 use Rattle.pool.proofs.Pool.start.Goals as goal
 
 pub loop-at-init : goal.loop-at-init

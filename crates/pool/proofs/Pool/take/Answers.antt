@@ -1,4 +1,4 @@
-use Rattle.std.proofs.Common.{◌≡◌, ◌-◌, ◌<◌, ◌≤◌, true, false, eqb, ltb, map, length, get_or, Err, sym, refl, ap, ◌∙◌, arith, le-ltb, lt-ltb, ne_eqb}
+use Rattle.std.proofs.Common.{◌≡◌, ◌-◌, ◌<◌, true, false, eqb, ltb, map, length, get_or, Err, sym, ap, ◌∙◌, arith, le-ltb, lt-ltb, ne_eqb}
 use lib.ListN.{length-map}
 use Rattle.std.proofs.lemmas.List.{get_or-map}
 use Rattle.pool.specs.declared.PoolFault.TheVariants.{Outside}

@@ -1,4 +1,4 @@
-use Rattle.std.proofs.Common.{◌≡◌, ℕ, suc, ◌+◌, ◌-◌, ◌≢◌, ◌⊎◌, length, get_or, sym, refl, ap, ◌∙◌, subst, inl, inr, arith}
+use Rattle.std.proofs.Common.{◌≡◌, suc, ◌+◌, ◌-◌, ◌≢◌, ◌⊎◌, get_or, sym, ap, ◌∙◌, subst, inl, inr, arith}
 use Rattle.pool.specs.Chain.{nowhere}
 use Rattle.records.specs.Heap.{blank_decl}
 use Rattle.shapes.specs.Shape.{decl_survey}

@@ -1,4 +1,4 @@
-use Rattle.std.proofs.Common.{◌≡◌, ℕ, suc, ◌-◌, ◌⊎◌, length, get_or, sym, refl, ap, ◌∙◌, subst, inl, inr, arith}
+use Rattle.std.proofs.Common.{◌≡◌, suc, ◌-◌, ◌⊎◌, get_or, sym, ap, ◌∙◌, subst, inl, inr, arith}
 use Rattle.reading.specs.declared.build.Surveyed.{Surveyed}
 use Rattle.records.specs.Heap.{blank_stmt}
 use Rattle.shapes.specs.Shape.{surveyed, kind_declared}

@@ -1,4 +1,4 @@
-use Rattle.std.proofs.Common.{◌≡◌, sym, refl, ap, ◌∙◌}
+use Rattle.std.proofs.Common.{refl, ◌∙◌}
 use Rattle.records.specs.Rows.{end}
 use Rattle.shapes.specs.Shape.{fits_stmt}
 use Rattle.reading.proofs.build.fitting.Goals as goal

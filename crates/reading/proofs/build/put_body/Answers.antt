@@ -1,4 +1,4 @@
-use Rattle.std.proofs.Common.{◌≡◌, sym, refl, ap, ◌∙◌, inl, inr}
+use Rattle.std.proofs.Common.{sym, refl, inl, inr}
 use Rattle.records.specs.declared.record.Stage.TheVariants.{Complete}
 use Rattle.reading.proofs.build.put_body.Goals as goal
 

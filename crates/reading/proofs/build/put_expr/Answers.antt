@@ -1,4 +1,4 @@
-use Rattle.std.proofs.Common.{◌≡◌, ◌+◌, ◌-◌, ◌<◌, map, length, set, sym, refl, ap, ◌∙◌, inr, arith}
+use Rattle.std.proofs.Common.{◌+◌, ◌-◌, set, sym, refl, inr, arith}
 use lib.ListN.{length-map}
 use Rattle.std.proofs.lemmas.Result.{err_from_is_err_and}
 use Rattle.reading.specs.Building.{awaiting_command}

@@ -1,5 +1,4 @@
-use Rattle.std.proofs.Common.{◌≡◌, length, get_or, sym, arith}
-use Rattle.records.specs.Readable.{tables}
+use Rattle.std.proofs.Common.{arith}
 use Rattle.reading.proofs.Folding.{midway_start, midway_next, midway_refused, midway_end}
 use Rattle.reading.proofs.judging.feed_bytes.Goals as goal
 

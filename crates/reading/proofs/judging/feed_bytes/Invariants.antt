@@ -1,6 +1,5 @@
 use Rattle.script.specs.Judge.{Model}
 use Rattle.records.specs.Readable.{tables}
-use Rattle.records.specs.Owned.{Limited}
 use Rattle.records.specs.Holds.{Holds}
 use Rattle.reading.proofs.Folding.{Midway}
 use Rattle.reading.proofs.judging.feed_bytes.Given as goal

@@ -1,10 +1,7 @@
-use Rattle.std.proofs.Common.{◌≡◌, sym, subst}
+use Rattle.std.proofs.Common.{sym, subst}
 use Rattle.script.specs.Stacks.{perform}
-use Rattle.script.specs.Judge.{Model}
 use Rattle.reading.specs.declared.making.Making.{Making}
-use Rattle.reading.specs.declared.making.Making.TheVariants as makes
-use Rattle.reading.specs.Making.{made_by, Listed, Matches}
-use Rattle.records.specs.Readable.{tables}
+use Rattle.reading.specs.Making.{Matches}
 use Rattle.reading.proofs.Matching.{made_matches}
 use Rattle.reading.proofs.Performed.{expr_judged, declarator_judged}
 use Rattle.reading.proofs.PerformedStmts.{stmt_judged, body_judged}

@@ -1,4 +1,4 @@
-use Rattle.std.proofs.Common.{◌≡◌, ℕ, suc, ◌+◌, ◌-◌, ◌≤◌, map, length, get_or, sym, refl, ap, ◌∙◌, arith}
+use Rattle.std.proofs.Common.{◌≡◌, suc, ◌+◌, ◌-◌, ◌≤◌, map, length, get_or, sym, ap, ◌∙◌, arith}
 use Rattle.pool.specs.Chain.{nowhere}
 use Rattle.records.specs.Turning.{turned}
 use Rattle.records.proofs.Turns.{turned_step, turned_out}

@@ -1,10 +1,7 @@
-use Rattle.std.proofs.Common.{◌≡◌, Bool, Ok, Err, Result, sym, refl, ap, ◌∙◌, subst}
+use Rattle.std.proofs.Common.{Bool, Ok, Err, sym, refl, subst}
 use Rattle.records.specs.declared.record.Whole.{Whole}
-use Rattle.sheet.specs.declared.closing.Unclosed.{Unclosed}
-use Rattle.script.specs.Judge.{Model, Stage as ModelStage}
 use Rattle.faults.specs.declared.fault.SheetFault.TheVariants.{Sizes, NotHeld, NoBody}
 use Rattle.records.specs.declared.record.Stage.{Stage}
-use Rattle.records.specs.declared.record.Stage.TheVariants.{Reading}
 use Rattle.records.specs.Readable.{tables}
 use Rattle.sheet.specs.Calls.{sizes_of, Closes, ClosesFrom}
 use Rattle.sheet.proofs.Promises.{closed_from}

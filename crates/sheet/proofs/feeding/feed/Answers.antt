@@ -1,4 +1,4 @@
-use Rattle.std.proofs.Common.{◌≡◌, Bool, length, Err, sym, refl, ap, ◌∙◌, subst, arith}
+use Rattle.std.proofs.Common.{Bool, length, Err, refl, subst}
 use Rattle.script.proofs.Agreement.{accepted_bytes_spell}
 use Rattle.records.specs.Readable.{tables}
 use Rattle.sheet.specs.Calls.{Feeds}

@@ -1,4 +1,4 @@
-use Rattle.std.proofs.Common.{◌≡◌, Bool, length, Ok, Err, sym, refl, ap, ◌∙◌, subst}
+use Rattle.std.proofs.Common.{Bool, length, Ok, Err, refl, subst}
 use Rattle.faults.specs.declared.fault.SheetFault.TheVariants.{Sizes, NotHeld, ShortOutput}
 use Rattle.records.specs.Readable.{tables}
 use Rattle.sheet.specs.Calls.{WritesSheet}

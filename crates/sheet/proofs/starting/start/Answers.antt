@@ -1,6 +1,5 @@
-use Rattle.std.proofs.Common.{◌≡◌, Bool, Ok, sym, refl, ap, ◌∙◌, subst}
+use Rattle.std.proofs.Common.{◌≡◌, Bool, Ok, subst}
 use Rattle.script.specs.Judge.{Spares, fresh}
-use Rattle.records.specs.declared.record.Draft.{Draft}
 use Rattle.records.specs.declared.record.Pools.{Pools}
 use Rattle.records.specs.Readable.{tables}
 use Rattle.records.specs.Holds.{Holds}
