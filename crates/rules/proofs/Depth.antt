@@ -15,6 +15,7 @@ use Rattle.rules.specs.Folding.{is_jump, alternate_cares_about_scope, ends_in_ju
 use Rattle.rules.specs.Folding.{handle_if_after_test, MergedTest, merge_same_if, last_if?, jump?, worked_if_test}
 use Rattle.rules.specs.Minimize.{minimize_statement, minimize_onto_with, minimize_onto}
 use Rattle.rules.specs.JumpCount.{jumps_list, jumps_alternate, jumps}
+use Rattle.rules.specs.Laws.{DepthIsEnough}
 use Rattle.rules.proofs.Holders.{goes_unseen}
 use Rattle.rules.proofs.IfJumps.{alternate_then_rest_jumps, terminated_has_jump, append_stmt_jumps}
 use Rattle.rules.proofs.NoMoreJumps.{NoMoreJumps, folded_jumps, folded_end_jumps, push_all_no_more_jumps, minimize_onto_jumps}
@@ -117,3 +118,7 @@ minimize_onto_same st (suc n) (suc m) todo r p q =
     minimize_onto_with_same st (λ todo₁ r₁. minimize_onto n st todo₁ r₁) (λ todo₁ r₁. minimize_onto m st todo₁ r₁)
     (minimize_onto_jumps st n)
     (jumps_list todo) (λ todo₁ r₁ h. minimize_onto_same st n m todo₁ r₁ (omega arith) (omega arith)) todo r (omega arith)
+
+pub depth_is_enough : DepthIsEnough
+depth_is_enough st n xs h =
+    ap (λ r. in_source_order (drop_last_jump st.holder r) no_stmts) (minimize_onto_same st n (jumps_list xs) xs no_stmts h (omega arith))

@@ -9,14 +9,13 @@ use Rattle.rules.specs.Statements.{is_terminated, statement_cares_about_scope, a
 use Rattle.rules.specs.Merging.{Worked}
 use Rattle.rules.specs.Returns.{value_or_void_0}
 use Rattle.rules.specs.Ifs.{try_minimize_if}
-use Rattle.rules.specs.Jumps.{in_source_order, drop_last_jump}
 use Rattle.rules.specs.Folding.{Context, minimized_tail, alternate_then_rest, Jump?, is_jump, alternate_cares_about_scope, ends_in_jump}
 use Rattle.rules.specs.Folding.{append_stmt, without_needless_block, no_jump, MergedTest, merge_same_if, last_if?, jump?, worked_if_test}
 use Rattle.rules.specs.Minimize.{minimize_onto}
 use Rattle.rules.specs.JumpCount.{jumps_list, jumps_alternate, jumps}
 use Rattle.rules.specs.Opened.{opened_by_push_if, opened_by_split, opened_by_fold, opened_by_if_after_test, opened_by_statement}
 use Rattle.rules.specs.Opened.{opened_onto_with, opened_onto}
-use Rattle.rules.specs.Laws.{DepthIsEnough}
+use Rattle.rules.specs.Laws.{OpenedDepthIsEnough}
 use Rattle.rules.proofs.Holders.{goes_unseen}
 use Rattle.rules.proofs.IfJumps.{alternate_then_rest_jumps, terminated_has_jump, append_stmt_jumps}
 use Rattle.rules.proofs.NoMoreJumps.{NoMoreJumps, folded_jumps, folded_end_jumps, push_all_no_more_jumps, minimize_onto_jumps}
@@ -119,8 +118,5 @@ opened_onto_same st (suc n) (suc m) todo r p q =
     (λ todo₁ r₁. opened_onto n st todo₁ r₁) (λ todo₁ r₁. opened_onto m st todo₁ r₁)
     (λ todo₁ r₁ h. opened_onto_same st n m todo₁ r₁ (omega arith) (omega arith)) todo r (omega arith)
 
-pub depth_is_enough : DepthIsEnough
-depth_is_enough st n xs h = (
-  ap (λ r. in_source_order (drop_last_jump st.holder r) no_stmts) (minimize_onto_same st n (jumps_list xs) xs no_stmts h (omega arith)),
-  opened_onto_same st n (jumps_list xs) xs no_stmts h (omega arith),
-)
+pub opened_depth_is_enough : OpenedDepthIsEnough
+opened_depth_is_enough st n xs h = opened_onto_same st n (jumps_list xs) xs no_stmts h (omega arith)

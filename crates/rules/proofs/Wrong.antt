@@ -3,7 +3,7 @@ use Rattle.std.proofs.Common.{Bool, true, false, T, eqb, List, [], ◌∷◌, sy
 use Rattle.run.specs.Completion.{Abrupt, broke, continued, cut, returned, thrown}
 use Rattle.run.specs.Values.{Value, boolean, integer, null, object, undefined}
 use Rattle.run.specs.World.{Event, Sight, not_in_sight, without_value, with_value}
-use Rattle.rules.specs.Laws.{WrongReadingsAlterRuns}
+use Rattle.rules.specs.Laws.{DroppedLetsAlterRuns, WrongReadingsAlterRuns}
 
 abbrev has_two : List Event → Bool
 has_two [] = false
@@ -45,15 +45,15 @@ wrong_readings_alter_runs = (
   λ e. subst T (ap (λ r. has_two r.events) e) tt,
   (
     λ e. subst T (sym (ap (λ r. first_sees in_sight r.events) e)) tt,
-    (
-      λ e. subst T (sym (ap (λ r. first_sees has_value r.events) e)) tt,
-      (
-        λ e. subst T (sym (ap (λ r. throws_second r.completion) e)) tt,
-        (
-          λ e. subst T (sym (ap (λ r. first_sees in_sight r.events) e)) tt,
-          (λ e. subst T (sym (ap (λ r. throws_second r.completion) e)) tt, tt),
-        ),
-      ),
-    ),
+    (λ e. subst T (sym (ap (λ r. first_sees has_value r.events) e)) tt, tt),
+  ),
+)
+
+pub dropped_lets_alter_runs : DroppedLetsAlterRuns
+dropped_lets_alter_runs = (
+  λ e. subst T (sym (ap (λ r. throws_second r.completion) e)) tt,
+  (
+    λ e. subst T (sym (ap (λ r. first_sees in_sight r.events) e)) tt,
+    (λ e. subst T (sym (ap (λ r. throws_second r.completion) e)) tt, tt),
   ),
 )

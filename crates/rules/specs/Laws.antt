@@ -22,7 +22,8 @@ use Rattle.rules.specs.Budget.{AtMost, budget_stmts, most_weight, weight_stmts}
 use Rattle.rules.specs.Moves.{Succeeds, perform}
 use Rattle.rules.specs.ListMoves.{moves_of_fusing}
 use Rattle.rules.specs.Marked.{AllFuse, marked}
-use Rattle.rules.specs.Wrong.{AllAlterRuns, wrong_readings}
+use Rattle.rules.specs.Opening.{AllOpen, marked_block}
+use Rattle.rules.specs.Wrong.{AllAlterRuns, dropped_lets, wrong_readings}
 
 -- whatever the host, the options, the world and the turns, a fused body runs as before: the same events in the same order, and the same completion
 abbrev pub FusingKeepsRuns : Type 0
@@ -43,9 +44,12 @@ FusingKeepsTheRules = (m : Setting) → Lawful m.host → (body : Stmts) → Sou
 -- an `if` folds or splits only by spending a jump, and no rule makes one
 abbrev pub DepthIsEnough : Type 0
 DepthIsEnough =
-    (c : Context) (n : ℕ) (xs : Stmts) → jumps_list xs ≤ n
-    → (minimize_statements n c xs ≡ minimize_statements (jumps_list xs) c xs)
-    × (opened_by_statements n c xs ≡ opened_by_statements (jumps_list xs) c xs)
+    (c : Context) (n : ℕ) (xs : Stmts) → jumps_list xs ≤ n → minimize_statements n c xs ≡ minimize_statements (jumps_list xs) c xs
+
+-- the same depth is enough for the count of opened blocks
+abbrev pub OpenedDepthIsEnough : Type 0
+OpenedDepthIsEnough =
+    (c : Context) (n : ℕ) (xs : Stmts) → jumps_list xs ≤ n → opened_by_statements n c xs ≡ opened_by_statements (jumps_list xs) c xs
 
 -- with sequences on, only a block that was opened can leave two expression statements side by side
 abbrev pub NoNeighbours : Type 0
@@ -100,5 +104,12 @@ RecordsSuffice =
 abbrev pub MarkedCasesHold : Type 0
 MarkedCasesHold = AllFuse marked
 
+-- none of the marked bodies opens a block, but for the one that is a block
+abbrev pub MarkedCasesOpen : Type 0
+MarkedCasesOpen = AllOpen 0 marked × AllFuse marked_block × AllOpen 1 marked_block
+
 abbrev pub WrongReadingsAlterRuns : Type 0
 WrongReadingsAlterRuns = AllAlterRuns wrong_readings
+
+abbrev pub DroppedLetsAlterRuns : Type 0
+DroppedLetsAlterRuns = AllAlterRuns dropped_lets

@@ -28,5 +28,6 @@ pub mod StatementMoves
 pub mod IfMoves
 pub mod ListMoves
 pub mod Marked
+pub mod Opening
 pub mod Wrong
 pub mod Laws

@@ -39,8 +39,13 @@ wrong_readings =
       body = stmt_then (declaration Let bare_a) (only (expression (assignment 0 call_f)));
       fused = only (declaration Let (declarator_then 0 (present call_f) no_declarators));
     }
-    -- a let behind a jump is dropped: `return a; let a` to `return a`
-    ∷ record {
+    ∷ []
+
+-- a let behind a jump is dropped
+abbrev pub dropped_lets : List Wrong
+dropped_lets =
+    -- `return a; let a` to `return a`
+    record {
       body = stmt_then (return_of (present (name 0))) (only (declaration Let bare_a));
       fused = only (return_of (present (name 0)));
     }

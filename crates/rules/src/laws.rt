@@ -1,7 +1,8 @@
 // What is proved of fusing. Each function's contract is the law; calling it does nothing.
-ghost use Rattle.rules.specs.Laws.{AlteredIsBytesDiffer, AlteredIsLighter, DepthIsEnough, FusedRecordsAreBounded, FusingKeepsNames};
-ghost use Rattle.rules.specs.Laws.{FusingKeepsRuns, FusingKeepsTheBudget, FusingKeepsTheRules, FusingLightens, MarkedCasesHold};
-ghost use Rattle.rules.specs.Laws.{NoNeighbours, RecordsSuffice, WeightSuffices, WrongReadingsAlterRuns};
+ghost use Rattle.rules.specs.Laws.{AlteredIsBytesDiffer, AlteredIsLighter, DepthIsEnough, DroppedLetsAlterRuns};
+ghost use Rattle.rules.specs.Laws.{FusedRecordsAreBounded, FusingKeepsNames, FusingKeepsRuns, FusingKeepsTheBudget};
+ghost use Rattle.rules.specs.Laws.{FusingKeepsTheRules, FusingLightens, MarkedCasesHold, MarkedCasesOpen, NoNeighbours};
+ghost use Rattle.rules.specs.Laws.{OpenedDepthIsEnough, RecordsSuffice, WeightSuffices, WrongReadingsAlterRuns};
 
 // A fused body has the same events in the same order and the same completion,
 // for every lawful host, both options, every world and every number of turns.
@@ -9,9 +10,14 @@ pub fn fusing_keeps_runs()
     ensures { FusingKeepsRuns }
 {}
 
-// A list is worked as deep as it has jumps: more depth gives the same, and opens as many blocks.
+// A list is worked as deep as it has jumps: more depth gives the same.
 pub fn depth_is_enough()
     ensures { DepthIsEnough }
+{}
+
+// More depth opens as many blocks, too.
+pub fn opened_depth_is_enough()
+    ensures { OpenedDepthIsEnough }
 {}
 
 // Each list keeps its let and const names in their order, and its var names as a set.
@@ -65,12 +71,22 @@ pub fn records_suffice()
     ensures { RecordsSuffice }
 {}
 
-// The marked bodies are fused to what is written beside them, and open as many blocks as written there.
+// The marked bodies are fused to what is written beside them.
 pub fn marked_cases_hold()
     ensures { MarkedCasesHold }
 {}
 
-// The folded test not turned, a tail that holds a let folded, a call moved into a let, a let behind a jump dropped: each alters a run.
+// None of the marked bodies opens a block; one more, which is a block, is opened.
+pub fn marked_cases_open()
+    ensures { MarkedCasesOpen }
+{}
+
+// The folded test not turned, a tail that holds a let folded, a call moved into a let: each alters a run.
 pub fn wrong_readings_alter_runs()
     ensures { WrongReadingsAlterRuns }
+{}
+
+// A let behind a jump dropped, in three bodies: each alters a run.
+pub fn dropped_lets_alter_runs()
+    ensures { DroppedLetsAlterRuns }
 {}
