@@ -12,7 +12,7 @@ pub record Setting : Type 0 where
   pub join_vars : Bool
   pub host : Meaning
 
--- as deep as the list has jumps: more gives the same (Laws, Depth-is-enough)
+-- as deep as the list has jumps: more gives the same (Laws, DepthIsEnough)
 abbrev pub minimize_list : Setting → Holder → Stmts → Stmts
 minimize_list m h ss =
     minimize_statements (jumps_list ss) (record { sequences = m.sequences; join_vars = m.join_vars; host = m.host; holder = h }) ss

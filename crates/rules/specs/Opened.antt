@@ -19,26 +19,26 @@ use Rattle.rules.specs.Minimize.{minimize_onto}
 use Rattle.rules.specs.JumpCount.{jumps_list}
 use Rattle.rules.specs.Fuse.{Setting, fuse_list, do_while_holder}
 
--- handle-block: opened if nothing in its list cares about scope
+-- handle_block: opened if nothing in its list cares about scope
 abbrev pub opened_by_block : Stmts → ℕ
 opened_by_block ss = cond (any_cares_about_scope ss) 0 1
 
--- then-rest: what stands behind a jump is not worked; more counts for the work on the rest
+-- then_rest: what stands behind a jump is not worked; more counts for the work on the rest
 abbrev pub opened_by_rest : (Stmts → ℕ) → Stmts → Stmts → ℕ
 opened_by_rest more rest r = cond (last_is_terminated r && is_nonempty rest) 0 (more r)
 
--- push-if: the `if` itself is no block
+-- push_if: the `if` itself is no block
 abbrev pub opened_by_push_if : (Stmts → ℕ) → Expr → Stmt → Alternate → Stmts → Stmts → ℕ
 opened_by_push_if more t c a rest r = opened_by_rest more rest (stmt_then (if_then t c a) r)
 
--- split-alternate: opened counts for the work on any list one level deeper
+-- split_alternate: opened counts for the work on any list one level deeper
 abbrev pub opened_by_split : (Stmts → Stmts → ℕ) → (Stmts → ℕ) → Expr → Stmt → Alternate → Stmts → Stmts → ℕ
 opened_by_split opened more t c no_alternate rest r = opened_by_push_if more t c no_alternate rest r
 opened_by_split opened more t c (alternate x) rest r =
     cond (is_terminated c && negated (statement_cares_about_scope x)) (opened (stmt_then x rest) (stmt_then (if_then t c no_alternate) r))
     (opened_by_push_if more t c (alternate x) rest r)
 
--- fold-rest: a fold works the tail, then the new `if`; again is the work that opened counts for
+-- fold_rest: a fold works the tail, then the new `if`; again is the work that opened counts for
 abbrev pub opened_by_fold : Context → (Stmts → Stmts → Stmts) → (Stmts → Stmts → ℕ) → (Stmts → ℕ) → {h : Holder} → Expr → {c : Stmt}
     → Jump? h c → Alternate → Stmts → Stmts → ℕ
 opened_by_fold s again opened more {h} t (is_jump x p) a rest r =
@@ -52,7 +52,7 @@ opened_by_fold s again opened more {h} t (ends_in_jump ys x p) a rest r =
     + opened (stmt_then (try_minimize_if s.host t (without_needless_block ys) (alternate (minimized_tail h again a rest))) no_stmts) r)
 opened_by_fold s again opened more t {c} no_jump a rest r = opened_by_split opened more t c a rest r
 
--- handle-if-after-test: without sequences nothing is folded
+-- handle_if_after_test: without sequences nothing is folded
 abbrev pub opened_by_if_after_test : Context → Bool → (Stmts → Stmts → Stmts) → (Stmts → Stmts → ℕ) → (Stmts → ℕ) → Expr → Stmt
     → Alternate → Stmts → Stmts → ℕ
 opened_by_if_after_test s false again opened more t c a rest r = opened_by_push_if more t c a rest r
@@ -60,14 +60,14 @@ opened_by_if_after_test s true again opened more t c a rest r =
     let j : MergedTest = merge_same_if t c (last_if? r) in
     opened_by_fold s again opened more {h = s.holder} j.test (jump? s.holder c) a rest j.results
 
--- handle-if-statement
+-- handle_if_statement
 abbrev pub opened_by_if : Context → (Stmts → Stmts → Stmts) → (Stmts → Stmts → ℕ) → (Stmts → ℕ) → Expr → Stmt → Alternate → Stmts → Stmts
     → ℕ
 opened_by_if s again opened more t c a rest r =
     let w : Worked = worked_if_test s.sequences t r in
     opened_by_if_after_test s s.sequences again opened more (value_or_void_0 w.target) c a rest w.results
 
--- minimize-statement: a block here may be opened; then the others
+-- minimize_statement: a block here may be opened; then the others
 abbrev pub opened_by_statement : Context → (Stmts → Stmts → Stmts) → (Stmts → Stmts → ℕ) → (Stmts → ℕ) → Stmt → Stmts → Stmts → ℕ
 opened_by_statement s again opened more empty rest r = opened_by_rest more rest r
 opened_by_statement s again opened more (expression e) rest r = opened_by_rest more rest (handle_expression_statement s.sequences e r)
@@ -85,27 +85,27 @@ opened_by_statement s again opened more (switch d cs) rest r = opened_by_rest mo
 opened_by_statement s again opened more break rest r = opened_by_rest more rest (stmt_then break r)
 opened_by_statement s again opened more continue rest r = opened_by_rest more rest (stmt_then continue r)
 
--- minimize-onto-with
+-- minimize_onto_with
 abbrev pub opened_onto_with : Context → (Stmts → Stmts → Stmts) → (Stmts → Stmts → ℕ) → Stmts → Stmts → ℕ
 opened_onto_with s again opened no_stmts r = 0
 opened_onto_with s again opened (stmt_then x rest) r =
     opened_by_statement s again opened (λ r₁. opened_onto_with s again opened rest r₁) x rest r
 
--- minimize-onto: below level zero statements are only put one after the other, which opens nothing
+-- minimize_onto: below level zero statements are only put one after the other, which opens nothing
 abbrev pub opened_onto : ℕ → Context → Stmts → Stmts → ℕ
 opened_onto zero s todo r = opened_onto_with s push_all (λ todo₁ r₁. 0) todo r
 opened_onto (suc n) s todo r = opened_onto_with s (λ todo₁ r₁. minimize_onto n s todo₁ r₁) (λ todo₁ r₁. opened_onto n s todo₁ r₁) todo r
 
--- minimize-statements
+-- minimize_statements
 abbrev pub opened_by_statements : ℕ → Context → Stmts → ℕ
 opened_by_statements n s ss = opened_onto n s ss no_stmts
 
--- minimize-list
+-- minimize_list
 abbrev pub opened_by_list : Setting → Holder → Stmts → ℕ
 opened_by_list m h ss =
     opened_by_statements (jumps_list ss) (record { sequences = m.sequences; join_vars = m.join_vars; host = m.host; holder = h }) ss
 
--- fuse-statement, fuse-alternate, fuse-list, fuse-cases: the lists inside, each worked once; h holds the statement's list, if it is a block
+-- fuse_statement, fuse_alternate, fuse_list, fuse_cases: the lists inside, each worked once; h holds the statement's list, if it is a block
 abbrev mutual
   pub opened_in_statement : Setting → Holder → Stmt → ℕ
   opened_in_statement m h empty = 0
@@ -138,6 +138,6 @@ abbrev mutual
 abbrev pub opened_in_list : Setting → Holder → Stmts → ℕ
 opened_in_list m h ss = opened_inside m ss + opened_by_list m h (fuse_list m ss)
 
--- fuse-body
+-- fuse_body
 abbrev pub opened_in_body : Setting → Stmts → ℕ
 opened_in_body m ss = opened_in_list m body_list ss

@@ -54,7 +54,7 @@ abbrev pub enter_record : List ℕ → State → State
 enter_record names s = with_environment (new_record uninitialised names ∷ s.environment) s
 
 -- "BlockDeclarationInstantiation" in a new environment, its names uninitialised.
--- A list that declares no name gets no record, which changes nothing (Laws, Empty-record-changes-nothing).
+-- A list that declares no name gets no record, which changes nothing (Laws, EmptyRecordChangesNothing).
 abbrev pub in_scope_of : List ℕ → Step → Step
 in_scope_of [] step s = step s
 in_scope_of (n ∷ names) step s = leave_record (step (enter_record (n ∷ names) s))
@@ -80,7 +80,7 @@ after_body (abrupt j s) next = after_abrupt_body j s next
 
 -- "DoWhileLoopEvaluation", and the loop of "ForBodyEvaluation" from a body's start on: body, update, test, and again.
 -- The first number is a bound for the recursion: each turn of the loop spends a turn of the run,
--- so the turns that are left are enough, and more of them change nothing (Laws, Loop-bound-is-the-turns).
+-- so the turns that are left are enough, and more of them change nothing (Laws, LoopBoundIsTheTurns).
 abbrev pub repeat : ℕ → (State → Completion Value) → Step → Step → Step
 repeat zero test body update s = abrupt cut s
 repeat (suc bound) test body update s =

@@ -3,7 +3,7 @@ use Rattle.std.specs.Prelude.{Bool, true, false, not, ◌&&◌, ℕ, eqb}
 
 -- ECMA-262, "ECMAScript Language Types": an integer of 32 bits is told by its bits, an object by a number of 32 bits.
 -- Two's complement is a bijection between -2^31 .. 2^31 - 1 and 0 .. 2^32 - 1 that takes 0 to 0, so nothing is lost by speaking of the bits.
--- No bound is put on them here: a run of 32-bit parts in a world of 32-bit answers meets 32-bit values only (Laws, Values-fit).
+-- No bound is put on them here: a run of 32-bit parts in a world of 32-bit answers meets 32-bit values only (Laws, ValuesFit).
 pub data Value : Type 0 where
   undefined null : Value
   boolean : Bool → Value
