@@ -11,13 +11,13 @@ use Rattle.moves.proofs.Frames.{kept_both, kept_others, stays}
 use Rattle.joining.specs.Needs.{EnoughFor}
 use Rattle.jumping.specs.declared.arguments.Turn.TheVariants.{Again, Done}
 use Rattle.merging.specs.declared.worked.Worked.{Worked}
-use Rattle.jumping.specs.Going.{Ends, Goes_on, Jump, TakesTurn, in_hand}
+use Rattle.jumping.specs.Going.{Ends, GoesOn, Jump, TakesTurn, in_hand}
 use Rattle.jumping.proofs.Fits.{results_fit_beside}
 
 -- after i turns: what there was at first goes on to the same
 pub record Looped {A : Type 0} (j : Jump A) (h h' : Heap) (p' : Pools) (loose : List Place) (rest : List Root) (w : Worked) (whole : Stmts) (i : ℕ) : Type 0 where
   pub bound : ℕ
-  pub going : Goes_on j h h' p' loose rest w whole bound
+  pub going : GoesOn j h h' p' loose rest w whole bound
   pub left : bound + i ≤ length h'.stmts
 
 abbrev pub Loops : {A : Type 0} → Jump A → Heap → Pools → Heap → Pools → ℕ → ℕ → ℕ → Worked → ℕ → Type 0

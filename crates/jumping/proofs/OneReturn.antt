@@ -24,7 +24,7 @@ use Rattle.moves.proofs.Spared.{spared}
 use Rattle.joining.specs.Needs.{EnoughFor}
 use Rattle.jumping.specs.declared.returns.Meeting.{Meeting}
 use Rattle.jumping.specs.declared.returns.Meeting.TheVariants.{Bare, Join, Stop}
-use Rattle.jumping.specs.Going.{Ends, Goes_on, in_hand, returns}
+use Rattle.jumping.specs.Going.{Ends, GoesOn, in_hand, returns}
 use Rattle.jumping.specs.Meet.{meeting}
 use Rattle.jumping.specs.Newest.{is_if_return, newest_if_return}
 use Rattle.jumping.proofs.Fits.{optional_fits}
@@ -179,10 +179,10 @@ module _ {h h' : Heap} {p p' : Pools} {loose : List Place} {rest : List Root} {v
   pub goes_on : (last inner : StmtRecord) (u : OptionalExpr) (r : Stmts) → last ≡ there h results → inner ≡ there h last.stmts
       → true ≡ newest_if_return r → Meets h holder inner.exprs value Join → lengths h ≡ lengths h' → JoinsValues h p h' p' value results last inner
       → EnoughFor (return_of u) r p → Owns h p loose (in_hand (returns holder) value results u r rest)
-      → Goes_on (returns holder) h h' p' loose rest (record { target = last.exprs; results = last.next }) (return_loop holder r u) (records_stmts r).stmts
+      → GoesOn (returns holder) h h' p' loose rest (record { target = last.exprs; results = last.next }) (return_loop holder r u) (records_stmts r).stmts
   goes_on last inner u no_stmts l i n meets same joins g o = absurd (let q : ◌≡◌ {A = ℕ} 0 1 = cc in omega arith)
   goes_on last inner u (stmt_then x r) l i n meets same joins g o =
-      subst (λ (v : StmtRecord). Goes_on (returns holder) h h' p' loose rest (record { target = v.exprs; results = v.next })
+      subst (λ (v : StmtRecord). GoesOn (returns holder) h h' p' loose rest (record { target = v.exprs; results = v.next })
       (return_loop holder (stmt_then x r) u) (records_stmts (stmt_then x r)).stmts) (sym l) (by (if_return? x) n g o)
     where
       meets_there : Meets h holder (there h (there h results).stmts).exprs value Join
@@ -194,7 +194,7 @@ module _ {h h' : Heap} {p p' : Pools} {loose : List Place} {rest : List Root} {v
 
       by : {y : Stmt} (w : IfReturn? y) → true ≡ is_if_return w → EnoughFor (return_of u) (stmt_then y r) p
           → Owns h p loose (in_hand (returns holder) value results u (stmt_then y r) rest)
-          → Goes_on (returns holder) h h' p' loose rest (record { target = (there h results).exprs; results = (there h results).next })
+          → GoesOn (returns holder) h h' p' loose rest (record { target = (there h results).exprs; results = (there h results).next })
           (return_step holder w u r (λ u₁. return_loop holder r u₁)) (records_stmts (stmt_then y r)).stmts
       by (if_return t v) z g₁ o₁ =
           let z₁ : Join ≡ meeting holder v u = meets_there v u o₁.held.1.0.3.2 o₁.held.0 (optional_fits u o₁) in

@@ -19,7 +19,7 @@ use Rattle.moves.proofs.Frames.{arrange, stays}
 use Rattle.moves.proofs.Open.{open_stmt}
 use Rattle.moves.proofs.Spared.{spared}
 use Rattle.joining.specs.Needs.{EnoughFor}
-use Rattle.jumping.specs.Going.{Ends, Goes_on, in_hand, throws}
+use Rattle.jumping.specs.Going.{Ends, GoesOn, in_hand, throws}
 use Rattle.jumping.specs.Newest.{is_if_throw, newest_if_throw}
 
 throw_stuck : (r : Stmts) (e : Expr) → false ≡ newest_if_throw r → throw_loop r e ≡ stmt_then (throw e) r
@@ -67,11 +67,11 @@ module _ {h h' : Heap} {p p' : Pools} {loose : List Place} {rest : List Root} {v
   pub goes_on : (last inner : StmtRecord) (e : Expr) (r : Stmts) → last ≡ there h results → inner ≡ there h last.stmts → true ≡ newest_if_throw r
       → false ≡ conditional_expression_count_exceeded e → lengths h ≡ lengths h' → Joins h p h' p' value results last inner
       → EnoughFor (throw e) r p → Owns h p loose (in_hand throws value results e r rest)
-      → Goes_on throws h h' p' loose rest (record { target = last.exprs; results = last.next })
+      → GoesOn throws h h' p' loose rest (record { target = last.exprs; results = last.next })
       (throw_loop r e) (records_stmts r).stmts
   goes_on last inner e no_stmts l i n u same joins g o = absurd (let q : ◌≡◌ {A = ℕ} 0 1 = cc in omega arith)
   goes_on last inner e (stmt_then x r) l i n u same joins g o =
-      subst (λ (v : StmtRecord). Goes_on throws h h' p' loose rest (record { target = v.exprs; results = v.next })
+      subst (λ (v : StmtRecord). GoesOn throws h h' p' loose rest (record { target = v.exprs; results = v.next })
       (throw_loop (stmt_then x r) e) (records_stmts (stmt_then x r)).stmts) (sym l) (by (if_throw? x) n g o)
     where
       joins_there : Joins h p h' p' value results (there h results) (there h (there h results).stmts)
@@ -79,7 +79,7 @@ module _ {h h' : Heap} {p p' : Pools} {loose : List Place} {rest : List Root} {v
 
       by : {y : Stmt} (v : IfThrow? y) → true ≡ is_if_throw v → EnoughFor (throw e) (stmt_then y r) p
           → Owns h p loose (in_hand throws value results e (stmt_then y r) rest)
-          → Goes_on throws h h' p' loose rest
+          → GoesOn throws h h' p' loose rest
           (record { target = (there h results).exprs; results = (there h results).next })
           (throw_step v e r (λ e₁. throw_loop r e₁)) (records_stmts (stmt_then y r)).stmts
       by (if_throw t e₀) z g₁ o₁ =

@@ -44,7 +44,7 @@ pub record Ends {A : Type 0} (j : Jump A) (h h' : Heap) (p' : Pools) (loose : Li
   pub same : whole ≡ stmt_then (j.stmt here.argument) here.results
 
 -- the loop goes on to the same, with fewer than n statements before the jump, and there is enough for it
-pub record Goes_on {A : Type 0} (j : Jump A) (h h' : Heap) (p' : Pools) (loose : List Place) (rest : List Root) (w : Worked) (whole : Stmts) (n : ℕ) : Type 0 where
+pub record GoesOn {A : Type 0} (j : Jump A) (h h' : Heap) (p' : Pools) (loose : List Place) (rest : List Root) (w : Worked) (whole : Stmts) (n : ℕ) : Type 0 where
   pub here : Now j h h' p' loose rest w
   pub same : whole ≡ j.loop here.results here.argument
   pub fewer : (records_stmts here.results).stmts < n
@@ -52,7 +52,7 @@ pub record Goes_on {A : Type 0} (j : Jump A) (h h' : Heap) (p' : Pools) (loose :
 
 abbrev pub AfterTurn : {A : Type 0} → Jump A → Heap → Heap → Pools → List Place → List Root → Turn → Stmts → ℕ → Type 0
 AfterTurn j h h' p' loose rest (Done w) whole n = Ends j h h' p' loose rest w whole
-AfterTurn j h h' p' loose rest (Again w) whole n = Goes_on j h h' p' loose rest w whole n
+AfterTurn j h h' p' loose rest (Again w) whole n = GoesOn j h h' p' loose rest w whole n
 
 -- one turn of the loop, for whoever owns an argument and results
 abbrev pub TakesTurn : {A : Type 0} → Jump A → Heap → Pools → Heap → Pools → ℕ → ℕ → Turn → Type 0
