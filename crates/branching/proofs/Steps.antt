@@ -7,13 +7,6 @@ use Rattle.records.specs.Heap.{Heap, Place}
 use Rattle.records.specs.Owned.{Owns, Root}
 use Rattle.records.specs.Rows.{Row}
 use Rattle.moves.specs.Moved.{Moved}
-use Rattle.moves.proofs.Frames.{kept_both, kept_others}
-
--- a move beside a loose place, and then one that uses it
-pub then_use : {h h₁ h₂ : Heap} {p₁ p₂ : Pools} {k : Place} {loose : List Place} {roots₁ roots₂ : List Root} → Moved h h₁ p₁ (k ∷ loose) roots₁
-    → (Owns h₁ p₁ (k ∷ loose) roots₁ → Moved h₁ h₂ p₂ loose roots₂)
-    → Moved h h₂ p₂ loose roots₂
-then_use m f = let n = f m.owned in record { owned = n.owned; kept = kept_both (kept_others m.kept) n.kept }
 
 -- an equal row
 pub told : {h : Heap} {p : Pools} {loose : List Place} {rest : List Root} {k : Place} {r r' : Row} → r ≡ r'

@@ -9,8 +9,6 @@ use borrow.Author.Tests.{eq-eqb, ne_eqb}
 use lib.Dec.{eqb}
 use lib.ListN.{get_or}
 use Rattle.pool.specs.Chain.{nowhere}
-use Rattle.script.specs.declared.ExpressionKind.{ExpressionKind}
-use Rattle.script.specs.declared.StatementKind.{StatementKind}
 use Rattle.script.specs.declared.StatementKind.TheVariants as kind
 use Rattle.script.specs.Tree.{Alternate, Expr, Stmt, Stmts, alternate, block, break, continue, declaration, do_while, empty, expression, for, if_then}
 use Rattle.script.specs.Tree.{no_alternate, no_stmts, return_of, stmt_then, switch, throw, while}
@@ -18,7 +16,7 @@ use Rattle.records.specs.declared.record.DeclRecord.{DeclRecord}
 use Rattle.records.specs.declared.record.ExprRecord.{ExprRecord}
 use Rattle.records.specs.declared.record.StmtRecord.{StmtRecord}
 use Rattle.records.specs.Embedding.{alternate_row, expr_row, stmt_row, stmts_row}
-use Rattle.records.specs.Heap.{Heap, Label, blank_expr, blank_stmt, decl_label, expr_at, expr_label, stmt_at, stmt_label}
+use Rattle.records.specs.Heap.{Heap, Label, blank_expr, blank_stmt, expr_at, stmt_at, stmt_label}
 use Rattle.records.specs.Owned.{Short}
 use Rattle.records.specs.Readable.{tables}
 use Rattle.records.specs.Rows.{At, Row, end, node}
@@ -29,16 +27,7 @@ use Rattle.moves.proofs.ByKind.{stmt_of_kind}
 use Rattle.moves.proofs.First.{expr_first, stmt_first}
 use Rattle.branching.specs.declared.views.Branch.TheVariants.{Expression, FullIf, LoneIf, Other}
 use Rattle.branching.specs.Views.{Shows, branch_kind, is_nothing}
-
-abbrev label_stmt : Label → StatementKind → StatementKind
-label_stmt (expr_label k) d = d
-label_stmt (stmt_label k) d = k
-label_stmt (decl_label n) d = d
-
-abbrev label_expr : Label → ExpressionKind → ExpressionKind
-label_expr (expr_label k) d = k
-label_expr (stmt_label k) d = d
-label_expr (decl_label n) d = d
+use Rattle.moves.proofs.Open.{label_expr, label_stmt}
 
 module _ (h : Heap) (i : ℕ) where
   first_there : (x : Stmt) (w : Row) → At h (stmt_at i) (stmt_row x w)

@@ -16,9 +16,8 @@ use Rattle.rules.specs.Switches.{handle_switch_statement, inline_switch_case, on
 use Rattle.rules.proofs.BudgetMerging.{merge_last_value, merge_leading_value, merged_budget}
 use Rattle.joining.specs.Needs.{EnoughFor}
 use Rattle.moves.specs.Moved.{Moved, Turns}
-use Rattle.moves.proofs.Frames.{arrange, then_move}
+use Rattle.moves.proofs.Frames.{arrange, then_move, then_use}
 use Rattle.moves.proofs.Spared.{spared}
-use Rattle.heading.proofs.Switching.{then_loose}
 
 -- the spare records after an expression was worked: no more are taken than the results weigh
 pub worked_spares : {h h' : Heap} {p p' : Pools} {target results target' results' : ℕ} (loose : List Place) (rest : List Root) (e : Expr) (r : Stmts) (w : Worked)
@@ -66,7 +65,7 @@ module _ {h h₁ h₂ h₃ : Heap} {p p₁ p₂ p₃ : Pools} {loose : List Plac
       by₂ absent r₂ v b k = absurd (omega arith)
       by₂ (present e) r₂ v b k =
           let s = worked_spares (stmt_at at ∷ loose) ((stmt_at cases, cases_row cs) ∷ rest) d r (record { target = present e; results = r₂ }) l b o₁ k.owned in
-          then_loose k (λ o₂. inlining e r₂ (omega arith) (omega arith) loose rest (arrange (0 ∷ 1 ∷ []) o₂))
+          then_use k (λ o₂. inlining e r₂ (omega arith) (omega arith) loose rest (arrange (0 ∷ 1 ∷ []) o₂))
 
       -- and after the last expression
       by₁ : (t : OptionalExpr) (r₁ : Stmts) → records_expr (value_or_void_0 t) ≡ records_optional t

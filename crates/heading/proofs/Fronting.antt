@@ -1,5 +1,5 @@
 -- What is owned after the head of a `for` was worked.
-use Rattle.std.proofs.Common.{◌≡◌, ℕ, ◌+◌, ◌≤◌, Bool, true, false, ◌&&◌, T, ◌≢◌, List, [], ◌∷◌, get_or, set, sym, refl, ap, ◌∙◌, subst, arith}
+use Rattle.std.proofs.Common.{◌≡◌, ℕ, ◌+◌, ◌≤◌, Bool, true, false, ◌&&◌, ◌≢◌, List, [], ◌∷◌, get_or, set, sym, refl, ap, ◌∙◌, subst, arith}
 use Rattle.pool.specs.Chain.{nowhere}
 use Rattle.script.specs.declared.DeclarationKind.{DeclarationKind}
 use Rattle.script.specs.declared.DeclarationKind.TheVariants.{Const, Let, Var}
@@ -25,18 +25,14 @@ use Rattle.rules.specs.Budget.{weight_stmts}
 use Rattle.rules.specs.Merging.{last_declaration?, merge_leading_assignments_to_declaration}
 use Rattle.rules.proofs.BudgetMerging.{merge_leading_budget}
 use Rattle.moves.specs.Moved.{Moved, Turns}
-use Rattle.moves.proofs.Frames.{arrange, regroup, stays, then_move}
+use Rattle.moves.proofs.Frames.{arrange, regroup, stays, then_move, then_use}
 use Rattle.moves.proofs.Open.{close_expr, close_stmt, kind_of_expr, kind_of_stmt, open_expr, open_stmt}
 use Rattle.heading.specs.declared.heads.Front.{Front}
 use Rattle.heading.specs.Fronts.{HasHead, head_with, is_expression_kind, is_var, is_var_kind, joined_init, worked_head}
 use Rattle.heading.proofs.Discriminant.{worked_spares}
-use Rattle.heading.proofs.Newest.{expression_newest, newest, newest_told, no_expression_newest, no_var_before, no_var_newest, var_newest}
+use Rattle.heading.proofs.Newest.{expression_newest, newest, newest_told, no_expression_newest, no_var_before, no_var_newest, no_way, var_newest}
 use Rattle.heading.proofs.Pushing.{one_moves, relinked_stmt}
-use Rattle.heading.proofs.Switching.{then_loose}
 use Rattle.heading.proofs.Told.{expr_somewhere}
-
-no_way : {A : Type 0} → false ≡ true → A
-no_way e = absurd (subst T (sym e) tt)
 
 abbrev pub front : ForInit → ℕ → ℕ → ℕ → Front
 front i values inner results = record { init = i; values = values; inner = inner; results = results }
@@ -351,6 +347,6 @@ for_closed f hd head i t u b e x =
     let e₁ = x.init in
     let e₂ : hd.test ≡ is_present t = ap (λ (v : ForHead). v.test) e in
     let e₃ : hd.update ≡ is_present u = ap (λ (v : ForHead). v.update) e in
-    then_loose x.moved
+    then_use x.moved
     (λ o. close_stmt (for head.init t u b) (stmts_row head.results) (for_record f hd)
     (λ j. kind.For (record { init = e₁ j; test = e₂ j; update = e₃ j })) (arrange (1 ∷ 1 ∷ 0 ∷ []) (end_in (decl_at nowhere) refl o)))

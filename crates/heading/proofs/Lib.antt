@@ -4,4 +4,3 @@ pub mod Switching
 pub mod Discriminant
 pub mod Newest
 pub mod Fronting
-pub mod Appending

@@ -29,7 +29,7 @@ newest_told f z h i no_stmts s a =
     ap (λ (v : StmtRecord). f v.kind) (get_or_past h.stmts i blank_stmt l) ∙ z
 newest_told f z h i (stmt_then x r) s a = ap f (stmt_told h i x (stmts_row r) a)
 
-no_way : {A : Type 0} → false ≡ true → A
+pub no_way : {A : Type 0} → false ≡ true → A
 no_way e = absurd (subst T (sym e) tt)
 
 -- an expression statement

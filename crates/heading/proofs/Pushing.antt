@@ -1,5 +1,5 @@
 -- Statements moved one by one onto the results.
-use Rattle.std.proofs.Common.{◌≡◌, ℕ, ◌+◌, ◌<◌, ◌≤◌, true, false, ◌≢◌, List, [], ◌∷◌, length, get_or, set, sym, refl, ap, subst, arith}
+use Rattle.std.proofs.Common.{◌≡◌, ℕ, ◌+◌, ◌≤◌, true, false, ◌≢◌, List, [], ◌∷◌, length, get_or, set, sym, refl, ap, arith}
 use Rattle.pool.specs.Chain.{nowhere}
 use Rattle.script.specs.declared.StatementKind.TheVariants as kind
 use Rattle.script.specs.Judge.{Spares}
@@ -13,19 +13,15 @@ use Rattle.records.specs.Embedding.{stmt_row, stmts_row}
 use Rattle.records.specs.Heap.{Heap, Place, blank_stmt, decl_at, expr_at, stmt_at}
 use Rattle.records.specs.Owned.{Owns, Root}
 use Rattle.records.specs.Readable.{tables}
-use Rattle.records.specs.Rows.{At, Row}
+use Rattle.records.specs.Rows.{Row}
 use Rattle.records.proofs.Balance.{balance}
 use Rattle.records.proofs.Moves.{end_in, end_out, pick}
 use Rattle.records.proofs.Tallies.{lengths, records_stmts_row}
 use Rattle.rules.specs.Statements.{any_cares_about_scope, handle_block, push_all}
 use Rattle.moves.specs.Moved.{Moved}
-use Rattle.moves.proofs.First.{stmt_first}
 use Rattle.moves.proofs.Frames.{arrange, regroup, then_move}
 use Rattle.moves.proofs.Open.{close_stmt, kind_of_stmt, open_stmt}
-
--- a statement stands within its table
-pub stmt_within : (h : Heap) (i : ℕ) (x : Stmt) (w : Row) → At h (stmt_at i) (stmt_row x w) → i < length h.stmts
-stmt_within h i x w a = (subst (λ (r : Row). At h (stmt_at i) r) (stmt_first x w) a).0
+use Rattle.moves.proofs.Told.{stmt_within}
 
 -- the record at a place with another link
 abbrev pub relinked_stmt : List StmtRecord → ℕ → ℕ → StmtRecord

@@ -17,20 +17,12 @@ use Rattle.records.proofs.Moves.{end_in, end_out, opened, pick}
 use Rattle.rules.specs.Literals.{is_literal}
 use Rattle.rules.specs.Switches.{case_block, has_nested_break_in_list, inline_switch_case, one_case?, one_test?, push_discriminant}
 use Rattle.moves.specs.Moved.{Moved, Turns}
-use Rattle.moves.proofs.Frames.{arrange, kept_both, kept_others, then_move}
+use Rattle.moves.proofs.Frames.{arrange, then_move, then_use}
 use Rattle.moves.proofs.Open.{close_stmt}
 use Rattle.heading.specs.Cases.{inlines, is_one_block}
 use Rattle.heading.proofs.Pushing.{block_closed, block_record}
 use Rattle.heading.proofs.Told.{expr_somewhere}
-
--- one move and then another that gives a loose place away
-pub then_loose : {h h₁ h₂ : Heap} {p₁ p₂ : Pools} {k : Place} {loose : List Place} {roots₁ roots₂ : List Root} → Moved h h₁ p₁ (k ∷ loose) roots₁
-    → (Owns h₁ p₁ (k ∷ loose) roots₁ → Moved h₁ h₂ p₂ loose roots₂)
-    → Moved h h₂ p₂ loose roots₂
-then_loose m f = let n = f m.owned in record { owned = n.owned; kept = kept_both (kept_others m.kept) n.kept }
-
-no_way : {A : Type 0} → false ≡ true → A
-no_way e = absurd (subst T (sym e) tt)
+use Rattle.heading.proofs.Newest.{no_way}
 
 -- the list of a case as a block
 
@@ -201,7 +193,7 @@ pub default_done : {h h₁ h₂ h₃ h₄ : Heap} {p p₁ p₂ p₃ : Pools} {lo
     ((expr_at discriminant, expr_row d end) ∷ (stmt_at list, stmts_row xs) ∷ (stmt_at results, stmts_row r) ∷ rest)
     → Moved h h₄ p₃ loose ((stmt_at branch, stmt_row (case_block xs) (stmts_row r₁)) ∷ rest)
 default_done {loose = loose} {rest = rest} {at = at} {case = case} {list = list} {kept = kept} {branch = branch} d xs r r₁ keeps blocks gives links o =
-    then_loose
-    (then_loose (keeps (stmt_at case ∷ stmt_at at ∷ loose) ((stmt_at list, stmts_row xs) ∷ rest) (arrange (0 ∷ 1 ∷ []) o))
+    then_use
+    (then_use (keeps (stmt_at case ∷ stmt_at at ∷ loose) ((stmt_at list, stmts_row xs) ∷ rest) (arrange (0 ∷ 1 ∷ []) o))
     (λ o₁. blocks (stmt_at at ∷ loose) ((stmt_at kept, stmts_row r₁) ∷ rest) (pick 1 o₁)))
     (λ o₂. then_move (gives ((stmt_at branch, stmt_row (case_block xs) end) ∷ (stmt_at kept, stmts_row r₁) ∷ rest) o₂) (λ o₃. links loose rest o₃))

@@ -1,7 +1,6 @@
 -- What the records of a row tell of its first tree.
 use Rattle.std.proofs.Common.{◌≡◌, ℕ, ◌≤◌, Bool, true, false, eqb, ◌≢◌, List, ◌∷◌, length, get_or, sym, refl, ap, ◌∙◌, subst, arith, eq-eqb, ne_eqb}
 use Rattle.pool.specs.Chain.{nowhere}
-use Rattle.script.specs.declared.StatementKind.{StatementKind}
 use Rattle.script.specs.declared.StatementKind.TheVariants as kind
 use Rattle.script.specs.Judge.{Spares}
 use Rattle.script.specs.Sound.{records_cases, records_expr, records_optional, records_stmts}
@@ -9,7 +8,7 @@ use Rattle.script.specs.Tree.{Cases, Expr, OptionalExpr, Stmt, Stmts, absent, ca
 use Rattle.script.specs.Tree.{block, break, continue, declaration, do_while, empty, expression, for, if_then, return_of, switch, throw, while}
 use Rattle.records.specs.declared.record.Pools.{Pools}
 use Rattle.records.specs.Embedding.{cases_row, expr_row, optional_row, stmt_row, stmts_row}
-use Rattle.records.specs.Heap.{Heap, Label, Place, blank_stmt, decl_label, expr_at, expr_label, stmt_at, stmt_label}
+use Rattle.records.specs.Heap.{Heap, Label, Place, blank_stmt, expr_at, stmt_at}
 use Rattle.records.specs.Owned.{Owns, Root, Short}
 use Rattle.records.specs.Rows.{At, Row, end}
 use Rattle.records.proofs.Balance.{balance}
@@ -21,12 +20,8 @@ use Rattle.moves.proofs.ByKind.{stmt_of_kind}
 use Rattle.moves.proofs.First.{stmt_first}
 use Rattle.moves.proofs.Rows.{expr_within}
 use Rattle.heading.specs.Cases.{inlines, is_a_block, is_one_block, literal_or_none}
-use Rattle.heading.proofs.Pushing.{stmt_within}
-
-abbrev label_stmt : Label → StatementKind → StatementKind
-label_stmt (expr_label k) d = d
-label_stmt (stmt_label k) d = k
-label_stmt (decl_label n) d = d
+use Rattle.moves.proofs.Open.{label_stmt}
+use Rattle.moves.proofs.Told.{stmt_within}
 
 pub stmt_told : (h : Heap) (i : ℕ) (x : Stmt) (w : Row) → At h (stmt_at i) (stmt_row x w) → (get_or h.stmts i blank_stmt).kind ≡ stmt_kind x
 stmt_told h i x w a =

@@ -18,9 +18,8 @@ ghost use Rattle.joining.specs.Needs.{EnoughFor};
 ghost use Rattle.moves.specs.Moved.{Turns};
 ghost use Rattle.heading.specs.Fronts.{TurnsToHead, head_with, is_expression_kind, is_var_kind, joined_init, worked_head};
 
-use crate::names::append_declarators;
 use joining::join_sequence;
-use merging::merge_leading_assignments_to_declaration;
+use merging::{append_names, merge_leading_assignments_to_declaration};
 use moves::{expr_at, give, link_expr, set, stmt_at};
 use pool::NOWHERE;
 use records::{DeclRecord, ExprRecord, Pools, StmtRecord};
@@ -268,7 +267,7 @@ fn join_vars(
 {
     let own = stmt_at(stmts, inner);
     let last = stmt_at(stmts, results);
-    let names = append_declarators(decls, last.decls, own.decls);
+    let names = append_names(decls, last.decls, own.decls);
     set(
         stmts,
         inner,

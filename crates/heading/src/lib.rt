@@ -3,7 +3,6 @@
 
 mod blocks;
 mod heads;
-mod names;
 mod switches;
 
 pub use blocks::{Opened, handle_block, push_all};

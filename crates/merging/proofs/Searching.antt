@@ -11,7 +11,7 @@ use Rattle.records.specs.declared.record.ExprRecord.{ExprRecord}
 use Rattle.records.specs.declared.record.Pools.{Pools}
 use Rattle.records.specs.declared.record.StmtRecord.{StmtRecord}
 use Rattle.records.specs.Embedding.{declarators_row, expr_row, is_present, optional_row}
-use Rattle.records.specs.Heap.{Heap, Label, Place, blank_decl, decl_at, decl_label, expr_at, expr_label, stmt_label}
+use Rattle.records.specs.Heap.{Heap, Place, blank_decl, decl_at, expr_at}
 use Rattle.records.specs.Owned.{Owns, Root, Short}
 use Rattle.records.specs.Readable.{tables}
 use Rattle.records.specs.Rows.{At, end}
@@ -22,7 +22,7 @@ use Rattle.records.proofs.Moves.{end_out, pick}
 use Rattle.records.proofs.Tallies.{lengths, records_declarators_row}
 use Rattle.moves.proofs.Frames.{arrange, regroup, stays}
 use Rattle.moves.proofs.Lenses.{inside_decl}
-use Rattle.moves.proofs.Open.{close_decl, name_of_decl, open_decl}
+use Rattle.moves.proofs.Open.{close_decl, label_name, name_of_decl, open_decl}
 use Rattle.moves.proofs.Rows.{expr_within}
 use Rattle.merging.specs.Searched.{Searched, found, is_merged, later_or, leads, merged_roots, passed, place_or, searched, searched_here, stopped}
 
@@ -37,11 +37,6 @@ place_step : (f : ℕ) (later here : Searched) → place_or f (later_or later he
 place_step f passed here = refl
 place_step f stopped here = refl
 place_step f (found j) here = refl
-
-abbrev label_name : Label → ℕ
-label_name (expr_label k) = 0
-label_name (stmt_label k) = 0
-label_name (decl_label n) = n
 
 -- n declarators of the row are passed; with what was found among them, the others lead to the same
 abbrev pub Along : List DeclRecord → DeclarationKind → Bool → ℕ → ℕ → ℕ → ℕ → ℕ → Type 0

@@ -140,3 +140,9 @@ arrange {h} {p} {loose} {roots} ns o = record {
   chains = o.chains;
   once = λ k v. rw uses_arranged (o.once k v);
 }
+
+-- a move beside a loose place, and then one that uses it
+pub then_use : {h h₁ h₂ : Heap} {p₁ p₂ : Pools} {k : Place} {loose : List Place} {roots₁ roots₂ : List Root} → Moved h h₁ p₁ (k ∷ loose) roots₁
+    → (Owns h₁ p₁ (k ∷ loose) roots₁ → Moved h₁ h₂ p₂ loose roots₂)
+    → Moved h h₂ p₂ loose roots₂
+then_use m f = let n = f m.owned in record { owned = n.owned; kept = kept_both (kept_others m.kept) n.kept }

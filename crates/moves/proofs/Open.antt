@@ -18,17 +18,17 @@ use Rattle.moves.proofs.First.{expr_first, stmt_first}
 use Rattle.moves.proofs.Single.{put_decl_of, put_expr_of, put_stmt_of}
 
 -- the kind that a label tells
-abbrev label_expr : Label → ExpressionKind → ExpressionKind
+abbrev pub label_expr : Label → ExpressionKind → ExpressionKind
 label_expr (expr_label k) d = k
 label_expr (stmt_label k) d = d
 label_expr (decl_label n) d = d
 
-abbrev label_stmt : Label → StatementKind → StatementKind
+abbrev pub label_stmt : Label → StatementKind → StatementKind
 label_stmt (expr_label k) d = d
 label_stmt (stmt_label k) d = k
 label_stmt (decl_label n) d = d
 
-abbrev label_name : Label → ℕ
+abbrev pub label_name : Label → ℕ
 label_name (expr_label k) = 0
 label_name (stmt_label k) = 0
 label_name (decl_label n) = n

@@ -1,25 +1,14 @@
 -- What a record that was read tells of the tree at its place.
 use Rattle.std.proofs.Common.{◌≡◌, ℕ, ◌<◌, length, get_or, sym, ap, ◌∙◌, subst}
-use Rattle.script.specs.declared.ExpressionKind.{ExpressionKind}
-use Rattle.script.specs.declared.StatementKind.{StatementKind}
 use Rattle.script.specs.Tree.{Expr, Stmt}
 use Rattle.records.specs.declared.record.ExprRecord.{ExprRecord}
 use Rattle.records.specs.declared.record.StmtRecord.{StmtRecord}
 use Rattle.records.specs.Embedding.{expr_row, stmt_row}
-use Rattle.records.specs.Heap.{Heap, Label, blank_expr, blank_stmt, decl_at, decl_label, expr_at, expr_label, stmt_at, stmt_label}
+use Rattle.records.specs.Heap.{Heap, Label, blank_expr, blank_stmt, decl_at, expr_at, expr_label, stmt_at, stmt_label}
 use Rattle.records.specs.Rows.{At, Row, end, node}
 use Rattle.moves.specs.First.{expr_kind, expr_parts, stmt_decls, stmt_exprs, stmt_kind, stmt_stmts}
 use Rattle.moves.proofs.First.{expr_first, stmt_first}
-
-abbrev kind_in : Label → ExpressionKind → ExpressionKind
-kind_in (expr_label k) d = k
-kind_in (stmt_label k) d = d
-kind_in (decl_label n) d = d
-
-abbrev stmt_kind_in : Label → StatementKind → StatementKind
-stmt_kind_in (expr_label k) d = d
-stmt_kind_in (stmt_label k) d = k
-stmt_kind_in (decl_label n) d = d
+use Rattle.moves.proofs.Open.{label_expr, label_stmt}
 
 module _ (h : Heap) (i : ℕ) (e : Expr) (w : Row) {r : ExprRecord} (told : r ≡ get_or h.exprs i blank_expr) (a : At h (expr_at i) (expr_row e w)) where
   there_expr : At h (expr_at i) (node (expr_label (expr_kind e)) (expr_parts e) end end w)
@@ -29,7 +18,7 @@ module _ (h : Heap) (i : ℕ) (e : Expr) (w : Row) {r : ExprRecord} (told : r �
   told_expr_within = there_expr.0
 
   pub told_expr_kind : r.kind ≡ expr_kind e
-  told_expr_kind = ap (λ (v : ExprRecord). v.kind) told ∙ ap (λ (l : Label). kind_in l (expr_kind e)) there_expr.1
+  told_expr_kind = ap (λ (v : ExprRecord). v.kind) told ∙ ap (λ (l : Label). label_expr l (expr_kind e)) there_expr.1
 
   pub told_expr_parts : At h (expr_at r.first) (expr_parts e)
   told_expr_parts = subst (λ (v : ExprRecord). At h (expr_at v.first) (expr_parts e)) (sym told) there_expr.2
@@ -45,7 +34,7 @@ module _ (h : Heap) (i : ℕ) (x : Stmt) (w : Row) {r : StmtRecord} (told : r �
   told_stmt_within = there_stmt.0
 
   pub told_stmt_kind : r.kind ≡ stmt_kind x
-  told_stmt_kind = ap (λ (v : StmtRecord). v.kind) told ∙ ap (λ (l : Label). stmt_kind_in l (stmt_kind x)) there_stmt.1
+  told_stmt_kind = ap (λ (v : StmtRecord). v.kind) told ∙ ap (λ (l : Label). label_stmt l (stmt_kind x)) there_stmt.1
 
   pub told_stmt_exprs : At h (expr_at r.exprs) (stmt_exprs x)
   told_stmt_exprs = subst (λ (v : StmtRecord). At h (expr_at v.exprs) (stmt_exprs x)) (sym told) there_stmt.2
@@ -58,3 +47,7 @@ module _ (h : Heap) (i : ℕ) (x : Stmt) (w : Row) {r : StmtRecord} (told : r �
 
   pub told_stmt_next : At h (stmt_at r.next) w
   told_stmt_next = subst (λ (v : StmtRecord). At h (stmt_at v.next) w) (sym told) there_stmt.5
+
+-- a statement stands within its table
+pub stmt_within : (h : Heap) (i : ℕ) (x : Stmt) (w : Row) → At h (stmt_at i) (stmt_row x w) → i < length h.stmts
+stmt_within h i x w a = (subst (λ (r : Row). At h (stmt_at i) r) (stmt_first x w) a).0

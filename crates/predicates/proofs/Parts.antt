@@ -22,7 +22,7 @@ use Rattle.rules.specs.Switches.{has_nested_break, has_nested_break_in_alternate
 use Rattle.moves.proofs.ByKind.{stmt_of_kind}
 use Rattle.moves.proofs.Told.{told_expr_within, told_stmt_exprs, told_stmt_kind, told_stmt_next, told_stmt_stmts, told_stmt_within}
 use Rattle.predicates.specs.Within.{TellsBranchesWithin, TellsStmtWithin, TellsStmtsWithin}
-use Rattle.predicates.proofs.Some.{stmt_records}
+use Rattle.rules.proofs.BudgetUnreachable.{some_statement}
 
 -- the branches of an if as a list
 abbrev branches : Stmt → Alternate → Stmts
@@ -51,7 +51,7 @@ branches_break c (alternate s) = ap (λ (b : Bool). has_nested_break c || b) (or
 
 -- no statement is told of within none
 pub within_none : {A : Type 0} (fact : Stmt → A) (stmts : List StmtRecord) (at bound : ℕ) (b : A) → bound ≡ 0 → TellsStmtWithin fact stmts at bound b
-within_none fact stmts at bound b z es ds x w s a n l = let q = stmt_records x in absurd (omega arith)
+within_none fact stmts at bound b z es ds x w s a n l = let q = some_statement x in absurd (omega arith)
 
 module _ (stmts : List StmtRecord) (at bound : ℕ) (r : StmtRecord) (read : r ≡ get_or stmts at blank_stmt) (some : 0 < bound) where
   -- a statement of this kind is told of by its row of statements

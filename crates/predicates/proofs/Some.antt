@@ -7,7 +7,7 @@ use native.Mathlib.Omega.{arith}
 use lib.ListN.{get_or, length}
 use Rattle.pool.specs.Chain.{nowhere}
 use Rattle.script.specs.Sound.{count_stmts, records_stmt, records_stmts}
-use Rattle.script.specs.Tree.{Stmt, Stmts, block, break, continue, declaration, do_while, empty, expression, for, if_then, no_stmts, return_of, stmt_then, switch, throw, while}
+use Rattle.script.specs.Tree.{Stmt, Stmts, no_stmts, stmt_then}
 use Rattle.records.specs.declared.record.DeclRecord.{DeclRecord}
 use Rattle.records.specs.declared.record.ExprRecord.{ExprRecord}
 use Rattle.records.specs.declared.record.StmtRecord.{StmtRecord}
@@ -17,26 +17,11 @@ use Rattle.records.specs.Owned.{Short}
 use Rattle.records.specs.Readable.{tables}
 use Rattle.records.specs.Rows.{At, Row}
 use Rattle.moves.proofs.Told.{told_stmt_next, told_stmt_within}
-
--- a statement has a record, and a list as many as it has statements
-pub stmt_records : (x : Stmt) → 1 ≤ (records_stmt x).stmts
-stmt_records empty = omega arith
-stmt_records (expression e) = omega arith
-stmt_records (declaration k ds) = omega arith
-stmt_records (return_of v) = omega arith
-stmt_records (throw e) = omega arith
-stmt_records (if_then t c a) = omega arith
-stmt_records (block ss) = omega arith
-stmt_records (while t b) = omega arith
-stmt_records (do_while b t) = omega arith
-stmt_records (for i t u b) = omega arith
-stmt_records (switch d cs) = omega arith
-stmt_records break = omega arith
-stmt_records continue = omega arith
+use Rattle.rules.proofs.BudgetUnreachable.{some_statement}
 
 pub stmts_records : (xs : Stmts) → count_stmts xs ≤ (records_stmts xs).stmts
 stmts_records no_stmts = omega arith
-stmts_records (stmt_then x xs) = let a = stmt_records x in let b = stmts_records xs in omega arith
+stmts_records (stmt_then x xs) = let a = some_statement x in let b = stmts_records xs in omega arith
 
 -- i statements of the row are passed, and the answer is that of the others
 abbrev pub Passed : (Stmts → Bool) → List StmtRecord → ℕ → ℕ → ℕ → ℕ → Type 0

@@ -15,7 +15,7 @@ use Rattle.script.specs.Stacks.{Item, statement, case, Stacks, Performed, puts_e
 use Rattle.reading.specs.declared.making.Making.TheVariants as makes
 use Rattle.records.specs.Heap.{expr_label, stmt_label}
 use Rattle.records.specs.Rows.{Row, end, node}
-use Rattle.records.specs.Embedding.{expr_row, exprs_row, item_row, expr_stack}
+use Rattle.records.specs.Embedding.{expr_row, item_row}
 use Rattle.shapes.specs.Shape.{fits_stmt, survey, decl_survey}
 use Rattle.records.specs.Flags.{one_if as flag_number}
 use Rattle.reading.specs.Making.{made_by, Listed, Matches}
@@ -24,10 +24,7 @@ use Rattle.reading.proofs.Made.{enough, remains, misplaced, made, expr_made, dec
 use Rattle.reading.proofs.ItemSurveys.{plain, unless_taken, branch_taken, stmts_taken, cases_taken, declarators_stack}
 use Rattle.reading.proofs.Fitting.{if_one, if_two, while_one, block_good, block_bad, case_as_block, switch_bad, switch_sound, declaration_sound}
 use Rattle.reading.proofs.ForMatching.{for_matches}
-
-exprs_stack : (es : List Expr) → exprs_row (exprs_of es) ≡ expr_stack es
-exprs_stack [] = refl
-exprs_stack (e ∷ es) = ap (expr_row e) (exprs_stack es)
+use Rattle.shapes.proofs.Decoding.{exprs_row_of}
 
 -- expressions
 
@@ -54,7 +51,7 @@ module _ (s : Stacks) where
   call_matches : (n c : ℕ) → Matches (makes.Expr (expression_kind.Call n) c) s (perform (command.Call n c) s)
   call_matches n c =
       all_taken (Matches (makes.Expr (expression_kind.Call n) c) s) c s.exprs _ (λ lack. lack) (λ parts es t.
-      expr_made s t (expression_kind.Call n) (call n (exprs_of parts)) (λ w. ap (λ (x : Row). node (expr_label (expression_kind.Call n)) x end end w) (exprs_stack parts)))
+      expr_made s t (expression_kind.Call n) (call n (exprs_of parts)) (λ w. ap (λ (x : Row). node (expr_label (expression_kind.Call n)) x end end w) (exprs_row_of parts)))
 
   sequence_matches : (c : ℕ) → 2 ≤ c → Matches (makes.Expr expression_kind.Sequence c) s (perform (command.Sequence c) s)
   sequence_matches c ok = all_taken P c s.exprs _ (λ lack. lack) (λ parts es t. by parts es t)
@@ -66,7 +63,7 @@ module _ (s : Stacks) where
       by [] es t = absurd (let e = t.count in omega arith)
       by (e ∷ parts) es t =
           expr_made s t expression_kind.Sequence (sequence e (exprs_of parts))
-          (λ w. ap (λ (x : Row). node (expr_label expression_kind.Sequence) (expr_row e x) end end w) (exprs_stack parts))
+          (λ w. ap (λ (x : Row). node (expr_label expression_kind.Sequence) (expr_row e x) end end w) (exprs_row_of parts))
 
   declarator_matches : (n : ℕ) (v : Bool) → Matches (makes.Decl n (flag_number v)) s (perform (command.Declarator n v) s)
   declarator_matches n v =

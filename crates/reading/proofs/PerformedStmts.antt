@@ -4,7 +4,7 @@ use Rattle.pool.specs.Chain.{nowhere}
 use Rattle.script.specs.declared.Table.TheVariants.{Statements}
 use Rattle.script.specs.declared.StatementKind.{StatementKind}
 use Rattle.script.specs.Format.{leftover}
-use Rattle.script.specs.Tree.{Stmt, empty, expression, declaration, return_of, throw, if_then, block, while, do_while, for, switch, break, continue, Stmts}
+use Rattle.script.specs.Tree.{Stmts}
 use Rattle.script.specs.Stacks.{Item, statement, case, Declarator, declarator, Stacks, Performed, lacks, misplaces, puts_expr, puts_item, puts_declarator, puts_body}
 use Rattle.script.specs.Judge.{Model, complete, Verdict, turned_away, taken, settled, between, push_item, alone}
 use Rattle.faults.specs.declared.fault.ReadFault.{ReadFault}
@@ -18,7 +18,7 @@ use Rattle.records.specs.declared.record.DeclRecord.{DeclRecord}
 use Rattle.records.specs.Heap.{Heap, expr_at, stmt_at, decl_at, stmt_label, stmt_links}
 use Rattle.records.specs.Rows.{Row, end, node, row_length}
 use Rattle.records.specs.Owned.{Root, Owns}
-use Rattle.records.specs.Embedding.{stmt_row, item_row, expr_stack, stmt_stack, decl_stack}
+use Rattle.records.specs.Embedding.{item_row, expr_stack, stmt_stack, decl_stack}
 use Rattle.records.specs.Turning.{front, behind, turned_exprs, turned_stmts, turned_decls}
 use Rattle.reading.specs.Making.{Matches, Enough, Wanting}
 use Rattle.reading.specs.Surveying.{Stacked}
@@ -30,22 +30,7 @@ use Rattle.records.proofs.Writes.{take_stmt, relink_stmt}
 use Rattle.records.proofs.TurnedOwned.{turned_exprs_owned, turned_stmts_owned, turned_decls_owned}
 use Rattle.shapes.proofs.Decoding.{expr_stack_length, no_items_left}
 use Rattle.reading.proofs.Performed.{working, spares_of, spare_places, spare_chain, lacking, spent_none, spent_one}
-
--- an item is one record in its row
-stmt_row_length : (s : Stmt) (w : Row) → row_length (stmt_row s w) ≡ suc (row_length w)
-stmt_row_length empty w = refl
-stmt_row_length (expression e) w = refl
-stmt_row_length (declaration k ds) w = refl
-stmt_row_length (return_of v) w = refl
-stmt_row_length (throw e) w = refl
-stmt_row_length (if_then t c a) w = refl
-stmt_row_length (block ss) w = refl
-stmt_row_length (while t b) w = refl
-stmt_row_length (do_while b t) w = refl
-stmt_row_length (for i t u b) w = refl
-stmt_row_length (switch d cs) w = refl
-stmt_row_length break w = refl
-stmt_row_length continue w = refl
+use Rattle.records.proofs.RowLengths.{stmt_row_length}
 
 item_row_length : (i : Item) (w : Row) → row_length (item_row i w) ≡ suc (row_length w)
 item_row_length (statement s) w = stmt_row_length s w

@@ -10,6 +10,7 @@ use Rattle.records.specs.Embedding.{expr_row, optional_row, item_row, declarator
 use Rattle.records.specs.Flags.{one_if as flag_number}
 use Rattle.records.specs.Turning.{front, behind}
 use Rattle.reading.specs.Making.{LessExprs, LessStmts, LessDecls}
+use Rattle.script.proofs.Exprs.{optional_on}
 
 -- n parts are taken off a stack
 pub record Taken {A : Type 0} (n : ℕ) (before parts after : List A) : Type 0 where
@@ -60,19 +61,14 @@ module _ {A : Type 0} (P : Performed → Type 0) where
       pops_taken n before k none (λ lack. short (omega arith))
       (λ taken rest u. found taken rest (record { list = u.list; count = let e = u.count in omega arith }))
 
--- an optional expression in front of others
-abbrev pub with_optional : OptionalExpr → List Expr → List Expr
-with_optional absent es = es
-with_optional (present e) es = e ∷ es
-
-pub optional_stack : (v : OptionalExpr) (es : List Expr) → expr_stack (with_optional v es) ≡ optional_row v (expr_stack es)
+pub optional_stack : (v : OptionalExpr) (es : List Expr) → expr_stack (optional_on v es) ≡ optional_row v (expr_stack es)
 optional_stack absent es = refl
 optional_stack (present e) es = refl
 
 pub pop_if_taken : (P : Performed → Type 0) {n : ℕ} {before parts : List Expr} (flag : Bool) (after : List Expr) (k : OptionalExpr → List Expr → Performed) →
     Taken n before parts after →
     (length before < flag_number flag + n → P lacks) →
-    ((v : OptionalExpr) (rest : List Expr) → is_present v ≡ flag → Taken (flag_number flag + n) before (with_optional v parts) rest → P (k v rest)) →
+    ((v : OptionalExpr) (rest : List Expr) → is_present v ≡ flag → Taken (flag_number flag + n) before (optional_on v parts) rest → P (k v rest)) →
     P (pop_if flag after k)
 pop_if_taken P {n} false after k t short found =
     found absent after refl (record { list = t.list; count = t.count ∙ sym (zero-add n) })
@@ -82,7 +78,7 @@ pop_if_taken P {n} true after k t short found =
 
 pub first_if_taken : (P : Performed → Type 0) (flag : Bool) (before : List Expr) (k : OptionalExpr → List Expr → Performed) →
     (length before < flag_number flag → P lacks) →
-    ((v : OptionalExpr) (rest : List Expr) → is_present v ≡ flag → Taken (flag_number flag) before (with_optional v []) rest → P (k v rest)) →
+    ((v : OptionalExpr) (rest : List Expr) → is_present v ≡ flag → Taken (flag_number flag) before (optional_on v []) rest → P (k v rest)) →
     P (pop_if flag before k)
 first_if_taken P flag before k short found =
     pop_if_taken P flag before k none (λ lack. short (omega arith))

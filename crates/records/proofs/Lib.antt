@@ -6,3 +6,4 @@ pub mod Turns
 pub mod TurnedOwned
 pub mod Tallies
 pub mod Balance
+pub mod RowLengths

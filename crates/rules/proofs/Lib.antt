@@ -20,6 +20,7 @@ pub mod Folding
 pub mod Minimize
 pub mod Fuse
 pub mod Marked
+pub mod Limit
 pub mod JumpCount
 pub mod IfJumps
 pub mod NoMoreJumps

@@ -76,7 +76,7 @@ minimize_not_sound e p = at_last_item_sound negate (λ e₁ q. negate_sound (not
 pub minimize_conditional_sound : (t a b : Expr) → SoundExpr t → SoundExpr a → SoundExpr b → SoundExpr (minimize_conditional t a b)
 minimize_conditional_sound t a b p q r = at_last_item_sound (λ t'. conditional t' a b) (λ e s. (s, q, r)) t p
 
-either_expr : (b : Bool) (x y : Expr) → SoundExpr x → SoundExpr y → SoundExpr (cond b x y)
+pub either_expr : (b : Bool) (x y : Expr) → SoundExpr x → SoundExpr y → SoundExpr (cond b x y)
 either_expr true x y p q = p
 either_expr false x y p q = q
 

@@ -21,7 +21,7 @@ use Rattle.rules.specs.Jumps.{drop_last_jump, can_remove_termination_statement, 
 use Rattle.rules.specs.Folding.{one_stmt_or_block, without_needless_block, is_if, append_stmt, alternate_then_rest}
 use Rattle.rules.proofs.Booleans.{or_right}
 use Rattle.rules.proofs.Statements.{declares_nothing}
-use Rattle.rules.proofs.SoundExpressions.{minimize_conditional_sound, join_with_left_associative_op_sound, minimize_not_sound}
+use Rattle.rules.proofs.SoundExpressions.{either_expr, join_with_left_associative_op_sound, minimize_conditional_sound, minimize_not_sound}
 use Rattle.rules.proofs.SoundMerging.{either_sound}
 
 -- a statement that may be a branch
@@ -56,19 +56,15 @@ minimize_if_else_sound t (is_lone_if u d) w p q r = swap_branches_sound (not? t)
 minimize_if_else_sound t (is_full_if u d y) w p q r = swap_branches_sound (not? t) (if_then u d (alternate y)) w p q r
 minimize_if_else_sound t {c} no_branch w p q r = swap_branches_sound (not? t) c w p q r
 
-either_logical : (b : Bool) (x y : Expr) → SoundExpr x → SoundExpr y → SoundExpr (cond b x y)
-either_logical true x y p q = p
-either_logical false x y p q = q
-
 if_to_logical_sound : (t e : Expr) → SoundExpr t → SoundExpr e → SoundExpr (if_to_logical t e)
 if_to_logical_sound t e p q =
-    either_logical (has_negated_result t) (join_with_left_associative_op Or (minimize_not t) e) (join_with_left_associative_op And t e)
+    either_expr (has_negated_result t) (join_with_left_associative_op Or (minimize_not t) e) (join_with_left_associative_op And t e)
     (join_with_left_associative_op_sound Or (minimize_not t) e (minimize_not_sound t p) q)
     (join_with_left_associative_op_sound And t e p q)
 
 else_to_logical_sound : (t e : Expr) → SoundExpr t → SoundExpr e → SoundExpr (else_to_logical t e)
 else_to_logical_sound t e p q =
-    either_logical (has_negated_result t) (join_with_left_associative_op And (minimize_not t) e) (join_with_left_associative_op Or t e)
+    either_expr (has_negated_result t) (join_with_left_associative_op And (minimize_not t) e) (join_with_left_associative_op Or t e)
     (join_with_left_associative_op_sound And (minimize_not t) e (minimize_not_sound t p) q)
     (join_with_left_associative_op_sound Or t e p q)
 

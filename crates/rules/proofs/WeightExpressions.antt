@@ -1,19 +1,16 @@
 -- How many records the rules that join expressions make.
-use Rattle.std.proofs.Common.{◌≡◌, ℕ, suc, ◌+◌, ◌<◌, ◌≤◌, Bool, true, false, cond, T, arith}
+use Rattle.std.proofs.Common.{ℕ, suc, ◌+◌, ◌<◌, ◌≤◌, Bool, true, false, cond, T, arith}
 use Rattle.script.specs.declared.LogicalOperator.{LogicalOperator}
 use Rattle.script.specs.declared.LogicalOperator.TheVariants.{Or, And}
 use Rattle.script.specs.Sound.{records_expr, records_exprs}
 use Rattle.script.specs.Tree.{Exprs, Expr, no_exprs, expr_then, number, word, name, assignment, call, sequence, conditional, logical, not}
 use Rattle.script.specs.Tree.{void, strict_equality}
 use Rattle.rules.specs.Equal.{same_operator}
-use Rattle.rules.specs.Expressions.{append_expr, Sequence?, join_sequence_as, is_sequence, no_sequence, join_sequence, sequence?, with_last_item}
+use Rattle.rules.specs.Expressions.{Sequence?, join_sequence_as, is_sequence, no_sequence, join_sequence, sequence?, with_last_item}
 use Rattle.rules.specs.Expressions.{with_last_of_items, at_last_of_items, at_last_item, Not?, negate_as, is_not, no_not, minimize_not, negate}
 use Rattle.rules.specs.Expressions.{not?, minimize_conditional, join_onto, join_with_left_associative_op}
 use Rattle.rules.specs.Ifs.{has_negated_result, has_negated_results, if_to_logical, else_to_logical}
-
-append_expr_records : (es : Exprs) (b : Expr) → records_exprs (append_expr es b) ≡ records_exprs es + records_expr b
-append_expr_records no_exprs b = omega arith
-append_expr_records (expr_then e es) b = let h = append_expr_records es b in omega arith
+use Rattle.rules.proofs.BudgetExpressions.{append_expr_records, either_records}
 
 join_sequence_as_records : {a b : Expr} (v : Sequence? a) (w : Sequence? b)
     → records_expr (join_sequence_as v w) ≤ records_expr a + records_expr b + 1
@@ -70,10 +67,6 @@ pub minimize_conditional_records : (t a b : Expr)
     → records_expr (minimize_conditional t a b) ≤ records_expr t + (records_expr a + records_expr b + 1)
 minimize_conditional_records t a b =
     at_last_item_records (λ t'. conditional t' a b) (records_expr a + records_expr b + 1) (λ e. omega arith) t
-
-either_records : (b : Bool) (x y : Expr) (n : ℕ) → records_expr x ≤ n → records_expr y ≤ n → records_expr (cond b x y) ≤ n
-either_records true x y n p q = p
-either_records false x y n p q = q
 
 join_onto_records : (o : LogicalOperator) (b a : Expr) → records_expr (join_onto o b a) ≤ records_expr a + (records_expr b + 1)
 join_onto_records o (number bits) a = omega arith

@@ -29,5 +29,6 @@ pub mod IfMoves
 pub mod ListMoves
 pub mod Marked
 pub mod Opening
+pub mod Limit
 pub mod Wrong
 pub mod Laws

@@ -3,6 +3,7 @@ ghost use Rattle.rules.specs.Laws.{AlteredIsBytesDiffer, AlteredIsLighter, Depth
 ghost use Rattle.rules.specs.Laws.{FusedRecordsAreBounded, FusingKeepsNames, FusingKeepsRuns, FusingKeepsTheBudget};
 ghost use Rattle.rules.specs.Laws.{FusingKeepsTheRules, FusingLightens, MarkedCasesHold, MarkedCasesOpen, NoNeighbours};
 ghost use Rattle.rules.specs.Laws.{OpenedDepthIsEnough, RecordsSuffice, WeightSuffices, WrongReadingsAlterRuns};
+ghost use Rattle.rules.specs.Limit.{StopsAt500};
 
 // A fused body has the same events in the same order and the same completion,
 // for every lawful host, both options, every world and every number of turns.
@@ -79,6 +80,11 @@ pub fn marked_cases_hold()
 // None of the marked bodies opens a block; one more, which is a block, is opened.
 pub fn marked_cases_open()
     ensures { MarkedCasesOpen }
+{}
+
+// A second argument with 499 conditionals in a row takes in the first one, one with 500 does not: of returns and of throws.
+pub fn mergers_stop_at_500()
+    ensures { StopsAt500 }
 {}
 
 // The folded test not turned, a tail that holds a let folded, a call moved into a let: each alters a run.

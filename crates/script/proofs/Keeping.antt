@@ -93,19 +93,19 @@ pops_sound P (suc n) (x ∷ xs) parts k h g then =
     pops_sound P n xs (x ∷ parts) k h.1 (h.0, g) (λ all rest e. then all rest (omega arith))
 
 -- lists of parts
-exprs_of_sound : (es : List Expr) → Every SoundExpr es → SoundExprs (exprs_of es)
+pub exprs_of_sound : (es : List Expr) → Every SoundExpr es → SoundExprs (exprs_of es)
 exprs_of_sound [] h = tt
 exprs_of_sound (e ∷ es) h = (h.0, exprs_of_sound es h.1)
 
-count_exprs_of : (es : List Expr) → count_exprs (exprs_of es) ≡ length es
+pub count_exprs_of : (es : List Expr) → count_exprs (exprs_of es) ≡ length es
 count_exprs_of [] = refl
 count_exprs_of (e ∷ es) = ap suc (count_exprs_of es)
 
-declarators_of_sound : (ds : List Declarator) → Every SoundDeclarator ds → SoundDeclarators (declarators_of ds)
+pub declarators_of_sound : (ds : List Declarator) → Every SoundDeclarator ds → SoundDeclarators (declarators_of ds)
 declarators_of_sound [] h = tt
 declarators_of_sound (declarator n v ∷ ds) h = (h.0, declarators_of_sound ds h.1)
 
-count_declarators_of : (ds : List Declarator) → count_declarators (declarators_of ds) ≡ length ds
+pub count_declarators_of : (ds : List Declarator) → count_declarators (declarators_of ds) ≡ length ds
 count_declarators_of [] = refl
 count_declarators_of (declarator n v ∷ ds) = ap suc (count_declarators_of ds)
 

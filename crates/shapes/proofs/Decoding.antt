@@ -5,25 +5,13 @@ use Rattle.script.specs.declared.ExpressionKind.TheVariants as kind
 use Rattle.script.specs.Tree.{Expr, number, word, name, assignment, call, sequence, conditional, logical, not, void, strict_equality}
 use Rattle.script.specs.Tree.{OptionalExpr, absent, present}
 use Rattle.script.specs.Stacks.{Stacks, no_items, Declarator, declarator, exprs_of, declarators_of}
-use Rattle.script.specs.Sound.{count_exprs, count_declarators, SoundExpr, SoundExprs, SoundOptional, SoundDeclarator, SoundDeclarators, Every}
+use Rattle.script.specs.Sound.{SoundExpr, SoundOptional, SoundDeclarator, Every}
 use Rattle.records.specs.Heap.{expr_label, stmt_label, decl_label}
 use Rattle.records.specs.Rows.{Row, end, node, row_length}
 use Rattle.records.specs.Embedding.{expr_row, exprs_row, optional_row, declarators_row, expr_stack, decl_stack}
 use Rattle.shapes.specs.Shape.{fits_expr, ShapedExprs, ShapedDecls, decl_survey}
-
--- lengths of rows
-pub expr_row_length : (e : Expr) (w : Row) → row_length (expr_row e w) ≡ suc (row_length w)
-expr_row_length (number b) w = refl
-expr_row_length (word c) w = refl
-expr_row_length (name n) w = refl
-expr_row_length (assignment n e) w = refl
-expr_row_length (call n es) w = refl
-expr_row_length (sequence e es) w = refl
-expr_row_length (conditional t a b) w = refl
-expr_row_length (logical o a b) w = refl
-expr_row_length (not e) w = refl
-expr_row_length (void e) w = refl
-expr_row_length (strict_equality a b) w = refl
+use Rattle.script.proofs.Keeping.{count_exprs_of, exprs_of_sound}
+use Rattle.records.proofs.RowLengths.{expr_row_length}
 
 pub expr_stack_length : (es : List Expr) → row_length (expr_stack es) ≡ length es
 expr_stack_length [] = refl
@@ -46,25 +34,9 @@ pub exprs_row_of : (es : List Expr) → exprs_row (exprs_of es) ≡ expr_stack e
 exprs_row_of [] = refl
 exprs_row_of (e ∷ es) = ap (expr_row e) (exprs_row_of es)
 
-pub exprs_of_count : (es : List Expr) → count_exprs (exprs_of es) ≡ length es
-exprs_of_count [] = refl
-exprs_of_count (e ∷ es) = ap suc (exprs_of_count es)
-
-pub exprs_of_sound : (es : List Expr) → Every SoundExpr es → SoundExprs (exprs_of es)
-exprs_of_sound [] h = tt
-exprs_of_sound (e ∷ es) h = (h.0, exprs_of_sound es h.1)
-
 pub declarators_row_of : (ds : List Declarator) → declarators_row (declarators_of ds) ≡ decl_stack ds
 declarators_row_of [] = refl
 declarators_row_of (declarator n v ∷ ds) = ap (node (decl_label n) (optional_row v end) end end) (declarators_row_of ds)
-
-pub declarators_of_count : (ds : List Declarator) → count_declarators (declarators_of ds) ≡ length ds
-declarators_of_count [] = refl
-declarators_of_count (declarator n v ∷ ds) = ap suc (declarators_of_count ds)
-
-pub declarators_of_sound : (ds : List Declarator) → Every SoundDeclarator ds → SoundDeclarators (declarators_of ds)
-declarators_of_sound [] h = tt
-declarators_of_sound (declarator n v ∷ ds) h = (h.0, declarators_of_sound ds h.1)
 
 -- what rows are decoded to
 abbrev pub ExprsOf : Row → Type 0
@@ -100,7 +72,7 @@ sequence_parts [] h n = absurd (omega arith)
 sequence_parts (a ∷ es) h n = (
   sequence a (exprs_of es),
   (λ w. ap (λ (x : Row). node (expr_label kind.Sequence) (expr_row a x) end end w) (exprs_row_of es)),
-  (omega (arith, exprs_of_count es), h.0, exprs_of_sound es h.1),
+  (omega (arith, count_exprs_of es), h.0, exprs_of_sound es h.1),
 )
 
 conditional_parts : (es : List Expr) → Every SoundExpr es → length es ≡ 3 → ExprOf kind.Conditional es
@@ -118,7 +90,7 @@ expr_of (kind.Assignment n) es h f = one_part (kind.Assignment n) (assignment n)
 expr_of (kind.Call n) es h f = (
   call n (exprs_of es),
   (λ w. ap (λ (x : Row). node (expr_label (kind.Call n)) x end end w) (exprs_row_of es)),
-  (omega (arith, exprs_of_count es, leb-true _ _ f), exprs_of_sound es h),
+  (omega (arith, count_exprs_of es, leb-true _ _ f), exprs_of_sound es h),
 )
 expr_of kind.Sequence es h f = sequence_parts es h (leb-true _ _ f)
 expr_of kind.Conditional es h f = conditional_parts es h (eqb-true _ _ f)

@@ -23,8 +23,10 @@ use Rattle.records.specs.Flags.{one_if}
 use Rattle.shapes.specs.Shape.{survey, decl_survey, first_declared, values_fit, plain_stmt, branches, init_expressions, head_expressions}
 use Rattle.shapes.specs.Shape.{for_fits, fits_stmt, ShapedStmts}
 use Rattle.shapes.proofs.Decoding.{ExprsOf, DeclaratorsOf, decl_stack_length, decoded_length, exprs_decoded, declarators_decoded}
-use Rattle.shapes.proofs.Decoding.{declarators_row_of, declarators_of_count, declarators_of_sound}
+use Rattle.shapes.proofs.Decoding.{declarators_row_of}
 use Rattle.shapes.proofs.Surveys.{both, join, flag_clear, optional_bare, stmt_row_cases, stmt_row_lexicals, item_stack_length, cases_few}
+use Rattle.script.proofs.Keeping.{count_declarators_of}
+use Rattle.script.proofs.Keeping.{declarators_of_sound}
 
 -- what a row is decoded to
 abbrev pub ItemsOf : Row → Type 0
@@ -299,7 +301,7 @@ declaration_of k es is ds d f =
     let some = leb-true _ _ c.0 in (
       statement (declaration k (declarators_of ds)),
       same_node (no_exprs_there es (eqb-true _ _ a.0)) (no_items_there is (eqb-true _ _ b.0)) (declarators_row_of ds),
-      (omega (arith, declarators_of_count ds, decl_stack_length ds), sound_declaration_of k ds c.1, declarators_of_sound ds d),
+      (omega (arith, count_declarators_of ds, decl_stack_length ds), sound_declaration_of k ds c.1, declarators_of_sound ds d),
     )
 
 -- no statements and no declarators

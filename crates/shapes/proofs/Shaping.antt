@@ -18,8 +18,8 @@ use Rattle.records.specs.Embedding.{alternate_row, stmts_row, cases_row, expr_st
 use Rattle.records.specs.Flags.{one_if as flag}
 use Rattle.shapes.specs.Shape.{survey, decl_survey, first_declared, values_fit, branches, init_expressions, head_expressions}
 use Rattle.shapes.specs.Shape.{for_fits, switch_fits, ShapedExprs, ShapedDecls, ShapedStmts}
-use Rattle.shapes.proofs.Decoding.{expr_row_length}
 use Rattle.shapes.proofs.Surveys.{both, join, optional_length, optional_bare, stmt_row_count, stmt_row_cases, stmt_row_lexicals}
+use Rattle.records.proofs.RowLengths.{expr_row_length}
 
 -- expressions
 exprs_row_length : (es : Exprs) → row_length (exprs_row es) ≡ count_exprs es

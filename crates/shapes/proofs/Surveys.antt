@@ -8,7 +8,7 @@ use Rattle.records.specs.Rows.{Row, end, row_length}
 use Rattle.records.specs.Embedding.{optional_row, is_present, stmt_row, stmt_stack}
 use Rattle.records.specs.Flags.{one_if}
 use Rattle.shapes.specs.Shape.{survey}
-use Rattle.shapes.proofs.Decoding.{expr_row_length}
+use Rattle.records.proofs.RowLengths.{expr_row_length}
 
 -- tests that hold together
 pub both : (a b : Bool) → (a && b) ≡ true → (a ≡ true) × (b ≡ true)

@@ -1,5 +1,5 @@
 -- Rows of statements: where they end, and how long they are at most.
-use Rattle.std.proofs.Common.{◌≡◌, ℕ, ◌<◌, ◌≤◌, List, ◌∷◌, length, refl, ap, subst, arith}
+use Rattle.std.proofs.Common.{◌≡◌, ℕ, ◌≤◌, List, ◌∷◌, length, refl, ap, arith}
 use Rattle.pool.specs.Chain.{nowhere}
 use Rattle.script.specs.Judge.{Spares}
 use Rattle.script.specs.Sound.{count_stmts, records_stmt, records_stmts}
@@ -8,15 +8,11 @@ use Rattle.records.specs.declared.record.Pools.{Pools}
 use Rattle.records.specs.Embedding.{stmt_row, stmts_row}
 use Rattle.records.specs.Heap.{Heap, Place, stmt_at}
 use Rattle.records.specs.Owned.{Owns, Root}
-use Rattle.records.specs.Rows.{At, Row}
+use Rattle.records.specs.Rows.{Row}
 use Rattle.records.proofs.Balance.{balance}
 use Rattle.records.proofs.Tallies.{lengths, records_stmt_row, records_stmts_row}
 use Rattle.rules.proofs.BudgetUnreachable.{some_statement}
-use Rattle.moves.proofs.First.{stmt_first}
-
--- a row from nowhere is empty, and a row from elsewhere is not
-pub stmt_within : (h : Heap) (i : ℕ) (x : Stmt) (w : Row) → At h (stmt_at i) (stmt_row x w) → i < length h.stmts
-stmt_within h i x w a = (subst (λ (r : Row). At h (stmt_at i) r) (stmt_first x w) a).0
+use Rattle.moves.proofs.Told.{stmt_within}
 
 pub no_stmt_nowhere : {h : Heap} {p : Pools} {loose : List Place} {rest : List Root} {i : ℕ} (x : Stmt) (w : Row) → i ≡ nowhere
     → Owns h p loose ((stmt_at i, stmt_row x w) ∷ rest)

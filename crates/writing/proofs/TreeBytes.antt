@@ -16,47 +16,19 @@ use Rattle.records.specs.Embedding.{expr_row, exprs_row, optional_row, declarato
 use Rattle.records.specs.Embedding.{stmt_row, alternate_row, stmts_row, cases_row}
 use Rattle.records.specs.Flags.{one_if as one_if}
 use Rattle.writing.specs.Bytes.{exprs_row_bytes, decls_row_bytes, first_bytes, others_bytes, stmts_row_bytes, body_row_bytes, init_order, in_order, init_bits, head_bits}
-
--- lengths of rows
-expr_length : (e : Expr) (w : Row) → row_length (expr_row e w) ≡ suc (row_length w)
-expr_length (number b) w = refl
-expr_length (word c) w = refl
-expr_length (name n) w = refl
-expr_length (assignment n e) w = refl
-expr_length (call n es) w = refl
-expr_length (sequence e es) w = refl
-expr_length (conditional t a b) w = refl
-expr_length (logical o a b) w = refl
-expr_length (not e) w = refl
-expr_length (void e) w = refl
-expr_length (strict_equality a b) w = refl
+use Rattle.records.proofs.RowLengths.{expr_row_length, stmt_row_length}
 
 exprs_length : (es : Exprs) → row_length (exprs_row es) ≡ count_exprs es
 exprs_length no_exprs = refl
-exprs_length (expr_then e es) = expr_length e (exprs_row es) ∙ ap suc (exprs_length es)
+exprs_length (expr_then e es) = expr_row_length e (exprs_row es) ∙ ap suc (exprs_length es)
 
 declarators_length : (ds : Declarators) → row_length (declarators_row ds) ≡ count_declarators ds
 declarators_length no_declarators = refl
 declarators_length (declarator_then n v ds) = ap suc (declarators_length ds)
 
-stmt_length : (s : Stmt) (w : Row) → row_length (stmt_row s w) ≡ suc (row_length w)
-stmt_length empty w = refl
-stmt_length (expression e) w = refl
-stmt_length (declaration k ds) w = refl
-stmt_length (return_of v) w = refl
-stmt_length (throw e) w = refl
-stmt_length (if_then t c a) w = refl
-stmt_length (block ss) w = refl
-stmt_length (while t b) w = refl
-stmt_length (do_while b t) w = refl
-stmt_length (for i t u b) w = refl
-stmt_length (switch d cs) w = refl
-stmt_length break w = refl
-stmt_length continue w = refl
-
 pub stmts_length : (ss : Stmts) → row_length (stmts_row ss) ≡ count_stmts ss
 stmts_length no_stmts = refl
-stmts_length (stmt_then s ss) = stmt_length s (stmts_row ss) ∙ ap suc (stmts_length ss)
+stmts_length (stmt_then s ss) = stmt_row_length s (stmts_row ss) ∙ ap suc (stmts_length ss)
 
 cases_length : (cs : Cases) → row_length (cases_row cs) ≡ count_cases cs
 cases_length no_cases = refl
@@ -77,7 +49,7 @@ mutual
       ∙ ap (λ v. exprs_bytes es (0x05 ∷ n ∷ v ∷ exprs_row_bytes w rest)) (m ∙ q)
   expr_is (sequence e es) s w rest =
       let c = row_length (expr_row e (exprs_row es)) in
-      let q : c ≡ suc (count_exprs es) = expr_length e (exprs_row es) ∙ ap suc (exprs_length es) in
+      let q : c ≡ suc (count_exprs es) = expr_row_length e (exprs_row es) ∙ ap suc (exprs_length es) in
       let bs : ℕ → List ℕ = λ v. 0x06 ∷ v % 256 ∷ v / 256 ∷ exprs_row_bytes w rest in
       expr_is e s.1 (exprs_row es) (bs c) ∙ ap (expr_bytes e) (exprs_is es s.2 (bs c) ∙ ap (λ v. exprs_bytes es (bs v)) q)
   expr_is (conditional t a b) s w rest =
@@ -104,7 +76,7 @@ optional_is (present e) s w rest = expr_is e s w rest
 -- a command by whether an expression is there
 code_is : (v : OptionalExpr) (a b : ℕ) → cond (eqb (row_length (optional_row v end)) 0) a b ≡ either_code v a b
 code_is absent a b = refl
-code_is (present e) a b = ap (λ n. cond (eqb n 0) a b) (expr_length e end)
+code_is (present e) a b = ap (λ n. cond (eqb n 0) a b) (expr_row_length e end)
 
 -- declarators
 declarators_is : (ds : Declarators) → SoundDeclarators ds → (rest : List ℕ) → decls_row_bytes (declarators_row ds) rest ≡ declarators_bytes ds rest
@@ -148,8 +120,8 @@ for_is (init_declaration k ds) t u s s₁ s₂ b rest =
     ∙ ap (declaration_bytes k ds) (optionals_is t u s₁ s₂ (stmts_row_bytes b rest))
 
 if_is : (c : Stmt) (a : Alternate) → cond (leb (row_length (stmt_row c (alternate_row a))) 1) 0x26 0x27 ≡ if_code a
-if_is c no_alternate = ap (λ n. cond (leb n 1) 0x26 0x27) (stmt_length c end)
-if_is c (alternate s) = ap (λ n. cond (leb n 1) 0x26 0x27) (stmt_length c (stmt_row s end) ∙ ap suc (stmt_length s end))
+if_is c no_alternate = ap (λ n. cond (leb n 1) 0x26 0x27) (stmt_row_length c end)
+if_is c (alternate s) = ap (λ n. cond (leb n 1) 0x26 0x27) (stmt_row_length c (stmt_row s end) ∙ ap suc (stmt_row_length s end))
 
 others_is : (s : Stmt) (w : Row) (rest : List ℕ) → others_bytes (stmt_row s w) rest ≡ stmts_row_bytes w rest
 others_is empty w rest = refl

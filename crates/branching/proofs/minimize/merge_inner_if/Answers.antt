@@ -5,9 +5,8 @@ use Rattle.records.specs.Heap.{expr_at, stmt_at}
 use Rattle.records.specs.Rows.{end}
 use Rattle.records.proofs.Moves.{pick}
 use Rattle.rules.specs.Ifs.{branch?, wrap_to_avoid_ambiguous_else}
-use Rattle.moves.proofs.Frames.{arrange, then_move}
+use Rattle.moves.proofs.Frames.{arrange, then_move, then_use}
 use Rattle.moves.proofs.Single.{give_stmt_of}
-use Rattle.branching.proofs.Steps.{then_use}
 use Rattle.branching.proofs.Opening.{opens_if}
 use Rattle.branching.proofs.minimize.merge_inner_if.Goals as goal
 

@@ -6,8 +6,9 @@ use Rattle.records.specs.Heap.{stmt_at}
 use Rattle.records.specs.Rows.{end}
 use Rattle.moves.proofs.Rows.{expr_fits}
 use Rattle.branching.proofs.Rules.{first_of, second_of}
-use Rattle.branching.proofs.Steps.{moved_told, then_use}
+use Rattle.branching.proofs.Steps.{moved_told}
 use Rattle.branching.proofs.minimize.minimize_empty_alone.Goals as goal
+use Rattle.moves.proofs.Frames.{then_use}
 
 pub returns-then-is_harmless : goal.returns-then-is_harmless
 returns-then-is_harmless g c ds t loose rest o =

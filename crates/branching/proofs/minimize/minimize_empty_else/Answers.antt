@@ -8,9 +8,9 @@ use Rattle.records.specs.Rows.{end}
 use Rattle.records.proofs.Moves.{pick}
 use Rattle.rules.specs.Expressions.{minimize_not}
 use Rattle.rules.specs.Ifs.{branch?, else_to_logical, minimize_empty_else}
-use Rattle.moves.proofs.Frames.{then_move}
+use Rattle.moves.proofs.Frames.{then_move, then_use}
 use Rattle.branching.proofs.Rules.{empty_else_turned, of_kind}
-use Rattle.branching.proofs.Steps.{moved_told, then_use, told}
+use Rattle.branching.proofs.Steps.{moved_told, told}
 use Rattle.branching.proofs.Spares.{as_long, enough, spared_by_not}
 use Rattle.branching.proofs.minimize.minimize_empty_else.Goals as goal
 

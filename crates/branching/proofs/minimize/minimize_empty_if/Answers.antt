@@ -4,9 +4,10 @@ use Rattle.records.specs.Heap.{stmt_at}
 use Rattle.records.proofs.Moves.{pick}
 use Rattle.rules.specs.Ifs.{empty?}
 use Rattle.moves.proofs.Single.{give_stmt_of}
-use Rattle.branching.proofs.Steps.{swap_loose, then_use}
+use Rattle.branching.proofs.Steps.{swap_loose}
 use Rattle.branching.proofs.Opening.{opens_nothing}
 use Rattle.branching.proofs.minimize.minimize_empty_if.Goals as goal
+use Rattle.moves.proofs.Frames.{then_use}
 
 pub returns : goal.returns
 returns g c ds t x a z n loose rest o =

@@ -9,9 +9,10 @@ use Rattle.records.proofs.Moves.{pick}
 use Rattle.rules.specs.Expressions.{minimize_conditional}
 use Rattle.rules.specs.Ifs.{branch?, is_expression, minimize_if_else}
 use Rattle.branching.proofs.Rules.{else_as_it_is, of_kind}
-use Rattle.branching.proofs.Steps.{moved_told, then_use, told}
+use Rattle.branching.proofs.Steps.{moved_told, told}
 use Rattle.branching.proofs.Viewing.{behind_read}
 use Rattle.branching.proofs.minimize.minimize_expression_else.Goals as goal
+use Rattle.moves.proofs.Frames.{then_use}
 
 pub returns-in-Expression : goal.returns-in-Expression
 returns-in-Expression c ds t e x n loose rest o =

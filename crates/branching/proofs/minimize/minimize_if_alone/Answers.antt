@@ -10,9 +10,9 @@ use Rattle.records.specs.Rows.{end}
 use Rattle.records.proofs.Moves.{pick}
 use Rattle.rules.specs.Expressions.{join_with_left_associative_op}
 use Rattle.rules.specs.Ifs.{branch?, if_to_logical, minimize_if_alone, wrap_to_avoid_ambiguous_else}
-use Rattle.moves.proofs.Frames.{then_move}
+use Rattle.moves.proofs.Frames.{then_move, then_use}
 use Rattle.branching.proofs.Rules.{alone_as_it_is, alone_in_braces, of_kind}
-use Rattle.branching.proofs.Steps.{moved_told, then_use, told}
+use Rattle.branching.proofs.Steps.{moved_told, told}
 use Rattle.branching.proofs.Spares.{enough}
 use Rattle.branching.proofs.minimize.minimize_if_alone.Goals as goal
 

@@ -8,9 +8,9 @@ use Rattle.records.specs.Rows.{end}
 use Rattle.records.proofs.Moves.{pick}
 use Rattle.rules.specs.Expressions.{not?}
 use Rattle.rules.specs.Ifs.{branch?, wrap_to_avoid_ambiguous_else}
-use Rattle.moves.proofs.Frames.{then_move}
+use Rattle.moves.proofs.Frames.{then_move, then_use}
 use Rattle.branching.proofs.Rules.{in_order, swapped}
-use Rattle.branching.proofs.Steps.{moved_told, then_use, told}
+use Rattle.branching.proofs.Steps.{moved_told, told}
 use Rattle.branching.proofs.minimize.swap_branches.Goals as goal
 
 pub returns-then-can_swap : goal.returns-then-can_swap

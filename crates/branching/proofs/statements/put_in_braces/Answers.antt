@@ -1,9 +1,9 @@
 use mathlib.Core.List.{◌∷◌}
 use Rattle.records.specs.Heap.{stmt_at}
 use Rattle.moves.proofs.Single.{take_stmt_of}
-use Rattle.branching.proofs.Steps.{then_use}
 use Rattle.branching.proofs.Writing.{writes_braces}
 use Rattle.branching.proofs.statements.put_in_braces.Goals as goal
+use Rattle.moves.proofs.Frames.{then_use}
 
 pub returns : goal.returns
 returns c es ds a d x w n loose rest o =

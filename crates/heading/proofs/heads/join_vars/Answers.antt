@@ -7,16 +7,16 @@ use Rattle.rules.specs.Declarations.{append_declarators}
 use Rattle.moves.proofs.Open.{kind_of_stmt}
 use Rattle.moves.proofs.Single.{give_stmt_of}
 use Rattle.heading.proofs.Fronting.{var_closed, vars_opened}
-use Rattle.heading.proofs.Switching.{then_loose}
 use Rattle.heading.proofs.heads.join_vars.Goals as goal
+use Rattle.moves.proofs.Frames.{then_use}
 
 pub returns : goal.returns
 returns c es k xs ys y z loose rest o =
     let own = c.stmt_at-own.result in
     let last = c.stmt_at-last.result in
-    then_loose
-    (then_loose
-    (c.append_declarators-names.ensures es c.args.stmts.now c.args.pools.now xs ys (stmt_at c.args.inner ∷ stmt_at c.args.results ∷ loose)
+    then_use
+    (then_use
+    (c.append_names-names.ensures es c.args.stmts.now c.args.pools.now xs ys (stmt_at c.args.inner ∷ stmt_at c.args.results ∷ loose)
     ((expr_at own.exprs, end) ∷ (stmt_at own.stmts, end) ∷ (stmt_at own.next, y) ∷ (stmt_at last.next, z) ∷ rest)
     (vars_opened k xs ys y z own last c.stmt_at-own.ensures c.stmt_at-last.ensures o))
     (λ o₁. var_closed k (append_declarators xs ys) y own
