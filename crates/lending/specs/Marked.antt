@@ -221,6 +221,7 @@ abbrev pub DecidesDraft : Bool → Heap → Draft → Type 0
 DecidesDraft true h d = (m : Model) × Holds h d m
 DecidesDraft false h d = (m : Model) → Holds h d m → ⊥
 
+-- whether tables hold a whole sheet, exactly
 abbrev pub DecidesWhole : Bool → Heap → Whole → Type 0
 DecidesWhole true h w = (body : Stmts) × HoldsWhole h w body
 DecidesWhole false h w = (body : Stmts) → HoldsWhole h w body → ⊥

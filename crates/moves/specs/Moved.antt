@@ -1,4 +1,4 @@
--- What a routine does to the records: it turns the rows that it was handed into others, and touches nothing else.
+-- What a routine does to the records: it makes other rows of those that it was handed, and every other row stands as it stood.
 use Rattle.std.specs.Prelude.{◌≡◌, ◌≤◌, List, ◌++◌}
 use Rattle.records.specs.declared.record.Pools.{Pools}
 use Rattle.records.specs.Heap.{Heap, Place, cell}

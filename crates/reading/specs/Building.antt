@@ -64,6 +64,7 @@ draft_with_expr n d t = record {
 abbrev pub NotPut : ReadFault → ℕ → ℕ → ℕ → ℕ → Pool → Type 0
 NotPut f wanted count tag n p = ((count < wanted) × (f ≡ TooFew)) ⊎ ((wanted ≤ count) × ((g : SheetFault) × (f ≡ Sheet g) × NoSpare g tag n p))
 
+-- an expression of the topmost n was put, or why not, and then nothing changed
 abbrev pub PutExpr : Result (Unit {0}) ReadFault → ExpressionKind → ℕ → Draft → List ExprRecord → Draft → List ExprRecord → Type 0
 PutExpr (Ok u) k n d t d' t' =
     (n ≤ d.exprs.count) × HasSpare (length (expr_links t)) d.pools.exprs × (d' ≡ draft_with_expr n d t) × (t' ≡ expr_put k n d t)
@@ -83,6 +84,7 @@ draft_with_declarator n d es ds = record {
   pools = record { exprs = d.pools.exprs; stmts = d.pools.stmts; decls = without_first (decl_links ds) d.pools.decls };
 }
 
+-- a declarator of this name was put, or why not, and then nothing changed
 abbrev pub PutDeclarator : Result (Unit {0}) ReadFault → ℕ → ℕ → Draft → List ExprRecord → List DeclRecord → Draft → List ExprRecord → List DeclRecord → Type 0
 PutDeclarator (Ok u) x n d es ds d' es' ds' =
     (n ≤ d.exprs.count) × HasSpare (length (decl_links ds)) d.pools.decls × (d' ≡ draft_with_declarator n d es ds)
@@ -133,6 +135,7 @@ abbrev pub FitsAs : Bool → StatementKind → Parts → Draft → List StmtReco
 FitsAs b k n d ss ds = (es : List ExprRecord) (s r : Row) → Stacked es ss ds d n s r →
     b ≡ fits_stmt k n.exprs (survey (front n.stmts s end)) (decl_survey (front n.decls r end)) (first_declared (front n.stmts s end))
 
+-- a statement of so many parts was put, or why not, and then nothing changed
 abbrev pub PutStmt : Result (Unit {0}) ReadFault → StatementKind → Parts → Draft → List ExprRecord → List StmtRecord → List DeclRecord → Draft → List ExprRecord → List StmtRecord → List DeclRecord → Type 0
 PutStmt (Ok u) k n d es ss ds d' es' ss' ds' =
     EnoughCounted d n × FitsAs true k n d ss ds × HasSpare (length (stmt_links ss)) d.pools.stmts
@@ -164,6 +167,7 @@ draft_with_body n d ss = record {
   pools = d.pools;
 }
 
+-- a body of the topmost n statements was put, or why not, and then nothing changed
 abbrev pub PutBody : Result (Unit {0}) ReadFault → ℕ → Draft → List StmtRecord → Draft → List StmtRecord → Type 0
 PutBody (Ok u) n d ss d' ss' =
     (n ≤ d.stmts.count) × CasesAs (λ c. c ≡ 0) n d ss × AloneCounted n d

@@ -16,6 +16,7 @@ use Rattle.records.specs.Flags.{one_if}
 use Rattle.shapes.specs.Shape.{head_expressions, init_statements, fits_stmt, survey, decl_survey, first_declared}
 use Rattle.records.specs.Turning.{front, behind}
 
+-- what a command makes, and of how many parts
 abbrev pub made_by : Command → Making
 made_by (command.Number b) = makes.Expr (expression.Number b) 0
 made_by (command.Word w) = makes.Expr (expression.Word w) 0

@@ -43,6 +43,7 @@ roots d m =
 abbrev pub counted : Pools → Spares
 counted p = record { exprs = p.exprs.count; stmts = p.stmts.count; decls = p.decls.count }
 
+-- the tables hold this draft, and what it holds is this model
 pub record Holds (h : Heap) (d : Draft) (m : Model) : Type 0 where
   pub sound : SoundModel m
   pub stage : SameStage d.stage m.stage
@@ -53,6 +54,7 @@ pub record Holds (h : Heap) (d : Draft) (m : Model) : Type 0 where
   pub decls : d.decls.count ≡ length m.stacks.decls
   pub spares : counted d.pools ≡ m.spares
 
+-- the tables hold this whole sheet, and its body is this one
 pub record HoldsWhole (h : Heap) (w : Whole) (body : Stmts) : Type 0 where
   pub sound : SoundStmts body
   pub owned : Owns h w.pools [] ((stmt_at w.body, stmts_row body) ∷ [])

@@ -5,6 +5,7 @@ use Rattle.records.specs.declared.record.Pools.{Pools}
 use Rattle.records.specs.Heap.{Heap, Place, Within, same, expr_links, stmt_links, decl_links, spare}
 use Rattle.records.specs.Rows.{Row, At, uses}
 
+-- a place and the row that stands there
 abbrev pub Root : Type 0
 Root = Place × Row
 
@@ -30,7 +31,7 @@ pub record Short (h : Heap) : Type 0 where
   pub stmts : length h.stmts ≤ nowhere
   pub decls : length h.decls ≤ nowhere
 
--- the longest tables whose counts can be told by two bytes
+-- no table is over its limit, so that a count fits two bytes
 pub record Limited (h : Heap) : Type 0 where
   pub exprs : length h.exprs ≤ 32768
   pub stmts : length h.stmts ≤ 4096
@@ -41,6 +42,7 @@ pub record Chains (h : Heap) (p : Pools) : Type 0 where
   pub stmts : Chain (stmt_links h.stmts) p.stmts.head p.stmts.count
   pub decls : Chain (decl_links h.decls) p.decls.head p.decls.count
 
+-- the roots stand there, the chains of spares are those of the pools, and nothing else is in the tables but the loose places
 pub record Owns (h : Heap) (p : Pools) (loose : List Place) (roots : List Root) : Type 0 where
   pub short : Short h
   pub inside : Inside h loose

@@ -30,5 +30,6 @@ reach h k (suc n) =
 abbrev pub reached : Heap → Place → ℕ
 reached h k = reach h k (records h)
 
+-- some row stands there, of no more records than there are
 abbrev pub Readable : Heap → Place → Type 0
 Readable h k = (r : Row) × At h k r × (size r ≤ records h) × Short h

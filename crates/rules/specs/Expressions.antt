@@ -126,5 +126,6 @@ join_onto o (not e) a = logical o a (not e)
 join_onto o (void e) a = logical o a (void e)
 join_onto o (strict_equality x y) a = logical o a (strict_equality x y)
 
+-- `a o b`, where the last item of a takes the place of a; if b has the same operator, its operands are joined one by one
 abbrev pub join_with_left_associative_op : LogicalOperator → Expr → Expr → Expr
 join_with_left_associative_op o a b = at_last_item (join_onto o b) a

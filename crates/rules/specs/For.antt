@@ -54,5 +54,6 @@ for_head q (init_expression e) r =
     let w : Worked = merge_leading_assignments_to_declaration true e r in head_from q w.target w.results
 for_head q (init_declaration k ds) r = head_from_declaration q k ds r
 
+-- sequences on or off, the head, its test and update, the loop's body, the results before it (newest first)
 abbrev pub handle_for_statement : Bool → Init → OptionalExpr → OptionalExpr → Stmt → Stmts → Stmts
 handle_for_statement q i t u b r = let h : WorkedHead = for_head q i r in stmt_then (for h.init t u b) h.results

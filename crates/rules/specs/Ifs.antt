@@ -147,6 +147,7 @@ try_minimize_if_as host t is_empty a = minimize_empty_if host t a
 try_minimize_if_as host t is_empty_block a = minimize_empty_if host t a
 try_minimize_if_as host t {c} no_empty a = minimize_full_if t c a
 
+-- an `if` by what its branches are: the host, the test, the consequent, the `else` if there is one
 abbrev pub try_minimize_if : Meaning → Expr → Stmt → Alternate → Stmt
 try_minimize_if host t c a = try_minimize_if_as host t (empty? c) a
 

@@ -43,6 +43,7 @@ can_remove_termination_statement h (switch d cs) = false
 can_remove_termination_statement h break = drops_break h
 can_remove_termination_statement h continue = drops_continue h
 
+-- the results (newest first) without the newest, if that is a jump to where the list ends anyway
 abbrev pub drop_last_jump : Holder → Stmts → Stmts
 drop_last_jump h no_stmts = no_stmts
 drop_last_jump h (stmt_then x r) = cond (can_remove_termination_statement h x) r (stmt_then x r)

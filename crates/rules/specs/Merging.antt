@@ -87,6 +87,7 @@ merge_into_declarators k l n e no_declarators = clear
 merge_into_declarators k l n e (declarator_then m p ds) =
     merge_in_later_or (merge_into_declarators k l n e ds) m p (merge_in_declarator k l n e (m == n) m p ds)
 
+-- the kind and the declarators, the name that is assigned, and its value
 abbrev pub merge_assignment_to_declaration : DeclarationKind → Declarators → ℕ → Expr → Merge
 merge_assignment_to_declaration k ds n e = merge_into_declarators k (is_literal_value e) n e ds
 
@@ -156,6 +157,7 @@ abbrev pub merge_leading_assignments_as : {r : Stmts} → LastDeclaration? r →
 merge_leading_assignments_as (last_declaration k ds r) d e = put_leading_back (merge_leading d (items_of (sequence? e)) k ds) k r
 merge_leading_assignments_as {r} no_last_declaration d e = record { target = present e; results = r }
 
+-- whether the expression's value is not wanted, the expression, the results before it (newest first)
 abbrev pub merge_leading_assignments_to_declaration : Bool → Expr → Stmts → Worked
 merge_leading_assignments_to_declaration d e r = merge_leading_assignments_as (last_declaration? r) d e
 
@@ -173,6 +175,7 @@ abbrev pub next_work : OptionalExpr → Stmts → (Expr → Stmts → Worked) �
 next_work absent r f = record { target = absent; results = r }
 next_work (present e) r f = f e r
 
+-- sequences on or off, the expression, the results before it (newest first)
 abbrev pub handle_expression_statement : Bool → Expr → Stmts → Stmts
 handle_expression_statement q e r =
     let m : Worked = merge_last_expression_into_sequence q e r in

@@ -118,6 +118,7 @@ abbrev pub merge_leading_into_declaration : OptionalExpr → Stmts → Worked
 merge_leading_into_declaration absent r = record { target = absent; results = r }
 merge_leading_into_declaration (present e) r = merge_leading_assignments_to_declaration false e r
 
+-- sequences on or off, the host, what holds the list, the argument, the results before it (newest first)
 abbrev pub handle_return_statement : Bool → Meaning → Holder → OptionalExpr → Stmts → Stmts
 handle_return_statement q host h p r =
     let m : Worked = merge_leading_into_declaration p r in

@@ -77,6 +77,7 @@ worked_discriminant q d r =
     let m : Worked = merge_last_expression_into_sequence q d r in
     next_work m.target m.results (λ e₁ r₁. merge_leading_assignments_to_declaration false e₁ r₁)
 
+-- sequences on or off, the discriminant, the cases, the results before it (newest first)
 abbrev pub handle_switch_statement : Bool → Expr → Cases → Stmts → Stmts
 handle_switch_statement q d cs r =
     let w : Worked = worked_discriminant q d r in inline_switch_case q (value_or_void_0 w.target) (one_case? cs) w.results

@@ -63,5 +63,6 @@ worked_throw_argument q e r =
     let m : Worked = merge_last_expression_into_sequence q e r in
     next_work m.target m.results (λ e₁ r₁. merge_leading_assignments_to_declaration false e₁ r₁)
 
+-- sequences on or off, the argument, the results before it (newest first)
 abbrev pub handle_throw_statement : Bool → Expr → Stmts → Stmts
 handle_throw_statement q e r = let w : Worked = worked_throw_argument q e r in merge_throws q (value_or_void_0 w.target) w.results

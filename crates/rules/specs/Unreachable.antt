@@ -26,6 +26,7 @@ abbrev pub push_kept_vars : List ℕ → Stmts → Stmts
 push_kept_vars [] r = r
 push_kept_vars (n ∷ ns) r = stmt_then (declaration Var (bare_declarators (n ∷ ns))) r
 
+-- what is kept of the statements behind a jump, put to the results (newest first)
 abbrev pub keep_declarations : Stmts → Stmts → Stmts
 keep_declarations rest r = push_kept_vars (note_hoisted_names (var_declared_list rest) []) (push_all (lexical_declarations rest) r)
 

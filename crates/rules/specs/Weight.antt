@@ -1,4 +1,4 @@
--- A weight of statements that every altering rule of fusing lowers, but for one that only puts let and const before var.
+-- Two measures of a body. The first, a sum over its records, is one that every altering rule of fusing lowers, but for one that only puts let and const before var.
 use Rattle.std.specs.Prelude.{◌≡◌, ℕ, suc, ◌+◌, ◌<◌, cond, ◌⊎◌}
 use Rattle.script.specs.Sound.{records_expr, records_optional}
 use Rattle.script.specs.Tree.{OptionalExpr, absent, present, Declarators, no_declarators, declarator_then, Init, no_init, init_expression}

@@ -18,6 +18,7 @@ pub record Wrong : Type 0 where
 abbrev pub all_give_one : World
 all_give_one events = record { reply = gives (integer 1); settings = λ n. none }
 
+-- in that world, with no loop turns, each runs otherwise than its body
 abbrev pub AllAlterRuns : List Wrong → Type 0
 AllAlterRuns [] = Unit {0}
 AllAlterRuns (c ∷ cs) = (run all_give_one 0 c.fused ≢ run all_give_one 0 c.body) × AllAlterRuns cs

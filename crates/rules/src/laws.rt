@@ -6,7 +6,7 @@ ghost use Rattle.rules.specs.Laws.{OpenedDepthIsEnough, RecordsSuffice, WeightSu
 ghost use Rattle.rules.specs.Limit.{StopsAt500};
 
 // A fused body has the same events in the same order and the same completion,
-// for every lawful host, both options, every world and every number of turns.
+// for every lawful host, each option on or off, every world and every number of turns.
 pub fn fusing_keeps_runs()
     ensures { FusingKeepsRuns }
 {}
@@ -42,12 +42,12 @@ pub fn fusing_lightens()
     ensures { FusingLightens }
 {}
 
-// A body is altered just where its weight, or how many vars stand ahead of a let or const, is another one.
+// A body is altered just where one of two measures is another one: a sum over its records, and how many pairs of a var and a let or const behind it.
 pub fn altered_is_lighter()
     ensures { AlteredIsLighter }
 {}
 
-// A body is altered just where it is written with other bytes.
+// For a lawful host, a body that breaks no rule of feeding is altered just where it is written with other bytes.
 pub fn altered_is_bytes_differ()
     ensures { AlteredIsBytesDiffer }
 {}

@@ -20,6 +20,7 @@ pub record Spares : Type 0 where
   pub stmts : ℕ
   pub decls : ℕ
 
+-- all that a draft is, with no word of tables: what it awaits or its body, the parts on its stacks, how many records are spare
 pub record Model : Type 0 where
   pub stage : Stage
   pub stacks : Stacks
@@ -100,6 +101,7 @@ abbrev pub then_fed : Verdict → Model → (Model → Fed) → Fed
 then_fed (turned_away r) m k = stopped 0 r m
 then_fed (taken m') m k = one_more (k m')
 
+-- bytes one after another, up to the first that is turned away
 abbrev pub judge_all : List ℕ → Model → Fed
 judge_all [] m = all_taken m
 judge_all (b ∷ bs) m = then_fed (judge m b) m (λ m'. judge_all bs m')

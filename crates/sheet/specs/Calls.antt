@@ -56,6 +56,7 @@ FeedsFrom h d bytes r h' = (m : Model) → Holds h d m → FedAs (record { count
 abbrev pub not_fed : Draft → SheetFault → FedSheet
 not_fed d f = record { draft = d; taken = 0; answer = Err (Sheet f) }
 
+-- the sizes fit or not; then the tables hold some model, and it is fed, or none, and nothing is
 abbrev pub Feeds : Bool → Heap → Draft → List ℕ → List ℕ → FedSheet → Heap → List ℕ → Type 0
 Feeds false h d marks bytes r h' marks' = (r ≡ not_fed d Sizes) × (h' ≡ h) × (marks' ≡ marks)
 Feeds true h d marks bytes r h' marks' =
@@ -71,6 +72,7 @@ ClosesFrom (StageReading a) s d r h = r ≡ Err (record { draft = d; fault = NoB
 ClosesFrom (Complete at) (reading a) d r h = ⊥
 ClosesFrom (Complete at) (complete body) d r h = (r ≡ Ok (record { body = at; pools = d.pools })) × HoldsWhole h (record { body = at; pools = d.pools }) body
 
+-- the sizes fit or not; then the tables hold some model, and it is closed if it has a body, or none
 abbrev pub Closes : Bool → Heap → Draft → List ℕ → Result Whole Unclosed → List ℕ → Type 0
 Closes false h d marks r marks' = (r ≡ Err (record { draft = d; fault = Sizes })) × (marks' ≡ marks)
 Closes true h d marks r marks' =
@@ -83,6 +85,7 @@ abbrev pub WritesBytes : Bool → Whole → List ℕ → List ℕ → Wrote → 
 WritesBytes true w bytes out r out' = (r ≡ record { whole = w; answer = Ok (length bytes) }) × (out' ≡ bytes ++ drop (length bytes) out)
 WritesBytes false w bytes out r out' = (r ≡ record { whole = w; answer = Err ShortOutput }) × (out' ≡ out)
 
+-- the sizes fit or not; then the tables hold some body, and it is written if the output is long enough, or none
 abbrev pub WritesSheet : Bool → Heap → Whole → List ℕ → List ℕ → Wrote → List ℕ → List ℕ → Type 0
 WritesSheet false h w marks out r marks' out' = (r ≡ record { whole = w; answer = Err Sizes }) × (marks' ≡ marks) × (out' ≡ out)
 WritesSheet true h w marks out r marks' out' =
