@@ -2,5 +2,4 @@ pub mod Viewing
 pub mod Rules
 pub mod Writing
 pub mod Opening
-pub mod Steps
 pub mod Spares

@@ -1,9 +1,10 @@
 -- Statements and a `!` opened for their parts, and their records given back.
-use mathlib.Core.Path.{◌≡◌, subst, sym}
+use mathlib.Core.Path.{◌≡◌}
 use mathlib.Core.Bool.{true}
 use mathlib.Core.List.{List, [], ◌∷◌}
 use Prim.Native.Nat.{ℕ}
 use borrow.Author.Tests.{clash}
+use native.Mathlib.Omega.{arith}
 use lib.ListN.{get_or}
 use Rattle.pool.specs.declared.Pool.{Pool}
 use Rattle.script.specs.Tree.{Alternate, Expr, Stmt, block, empty, expression, if_then, no_stmts, not}
@@ -28,21 +29,26 @@ use Rattle.moves.proofs.Single.{give_expr_of, give_stmt_of}
 pub opens_if : {h : Heap} {p : Pools} {loose : List Place} {rest : List Root} {at : ℕ} (stmt : StmtRecord) → stmt ≡ get_or h.stmts at blank_stmt
     → (t : Expr) (c : Stmt) (a : Alternate) → Owns h p loose ((stmt_at at, stmt_row (if_then t c a) end) ∷ rest)
     → Owns h p (stmt_at at ∷ loose) ((stmt_at stmt.stmts, stmt_row c (alternate_row a)) ∷ (expr_at stmt.exprs, expr_row t end) ∷ rest)
-opens_if {h} {p} {loose} {rest} {at} stmt r t c a o =
-    subst (λ (v : StmtRecord). Owns h p (stmt_at at ∷ loose) ((stmt_at v.stmts, stmt_row c (alternate_row a)) ∷ (expr_at v.exprs, expr_row t end) ∷ rest)) (sym r)
-    (pick 1 (end_out (end_out (arrange (2 ∷ 2 ∷ []) (open_stmt (if_then t c a) end o)))))
+opens_if stmt r t c a o = rw r (pick 1 (end_out (end_out (arrange (2 ∷ 2 ∷ []) (open_stmt (if_then t c a) end o)))))
 
 -- an empty statement opened
 pub opens_nothing : {h : Heap} {p : Pools} {loose : List Place} {rest : List Root} {at : ℕ} (stmt : StmtRecord) → stmt ≡ get_or h.stmts at blank_stmt
     → {x : Stmt} (v : Empty? x) (w : Row) → is_nothing v ≡ true → Owns h p loose ((stmt_at at, stmt_row x w) ∷ rest)
     → Owns h p (stmt_at at ∷ loose) ((stmt_at stmt.next, w) ∷ rest)
-opens_nothing {h} {p} {loose} {rest} {at} stmt r is_empty w z o =
-    subst (λ (v : StmtRecord). Owns h p (stmt_at at ∷ loose) ((stmt_at v.next, w) ∷ rest)) (sym r)
-    (end_out (end_out (end_out (open_stmt empty w o))))
-opens_nothing {h} {p} {loose} {rest} {at} stmt r is_empty_block w z o =
-    subst (λ (v : StmtRecord). Owns h p (stmt_at at ∷ loose) ((stmt_at v.next, w) ∷ rest)) (sym r)
-    (end_out (end_out (end_out (open_stmt (block no_stmts) w o))))
+opens_nothing stmt r is_empty w z o = rw r (end_out (end_out (end_out (open_stmt empty w o))))
+opens_nothing stmt r is_empty_block w z o = rw r (end_out (end_out (end_out (open_stmt (block no_stmts) w o))))
 opens_nothing stmt r no_empty w z o = absurd (clash z)
+
+-- loose places in the other order
+pub swap_loose : {h : Heap} {p : Pools} {j k : Place} {loose : List Place} {roots : List Root} → Owns h p (j ∷ k ∷ loose) roots
+    → Owns h p (k ∷ j ∷ loose) roots
+swap_loose o = record {
+  short = o.short;
+  inside = (o.inside.1.0, (o.inside.0, o.inside.1.1));
+  held = o.held;
+  chains = o.chains;
+  once = λ q v. let n = o.once q v in omega arith;
+}
 
 -- an expression statement is given back for its expression
 pub gives_expression : {h : Heap} {p : Pools} {loose : List Place} {rest : List Root} {at : ℕ} (e : Expr) (t' : List StmtRecord) (p' : Pool)

@@ -1,6 +1,6 @@
 -- The rules by what was read of the statements.
-use mathlib.Core.Path.{◌≡◌, ap, refl, subst, sym}
-use mathlib.Core.Bool.{Bool, cond, false, true, not as negated}
+use mathlib.Core.Path.{◌≡◌, refl, sym}
+use mathlib.Core.Bool.{false, true, not as negated}
 use mathlib.Core.Logic.{◌≢◌}
 use Prim.Native.Nat.{ℕ}
 use borrow.Author.Tests.{clash}
@@ -24,12 +24,6 @@ use Rattle.branching.specs.declared.views.Branch.TheVariants.{Expression, FullIf
 use Rattle.branching.specs.Views.{branch_kind, is_nothing, swaps}
 use Rattle.branching.proofs.Viewing.{somewhere}
 
-pub first_of : {A : Type 0} {b : Bool} (x y : A) → b ≡ true → x ≡ cond b x y
-first_of x y e = subst (λ (v : Bool). x ≡ cond v x y) (sym e) refl
-
-pub second_of : {A : Type 0} {b : Bool} (x y : A) → b ≡ false → y ≡ cond b x y
-second_of x y e = subst (λ (v : Bool). y ≡ cond v x y) (sym e) refl
-
 -- the test
 
 pub no_not_here : (t : Expr) → (expr_kind t ≢ expression.Not) → not? t ≡ no_not
@@ -52,7 +46,7 @@ swaps_not e (is_full_if t c y) = refl
 swaps_not e no_branch = refl
 
 pub not_swapped : (t : Expr) {x : Stmt} (v : Branch? x) → (expr_kind t ≢ expression.Not) → false ≡ swaps (not? t) v
-not_swapped t v n = ap (λ (m : Not? t). swaps m v) (sym (no_not_here t n))
+not_swapped t v n = rw (no_not_here t n) refl
 
 pub swapped : {t : Expr} (n : Not? t) (c : Stmt) {x : Stmt} (v : Branch? x) → swaps n v ≡ true
     → (e : Expr) × (t ≡ not e) × (if_then e x (alternate c) ≡ swap_branches n c v)
@@ -86,11 +80,10 @@ is_of_kind (is_full_if t c y) = (t, c, y, refl)
 is_of_kind no_branch = refl
 
 pub of_kind : {k : Branch} {x : Stmt} (v : Branch? x) → k ≡ branch_kind v → OfKind k v
-of_kind v e = subst (λ (b : Branch). OfKind b v) (sym e) (is_of_kind v)
+of_kind v e = rw e (is_of_kind v)
 
 pub wrapped : (x : Stmt) → FullIf ≡ branch_kind (branch? x) → block (stmt_then x no_stmts) ≡ wrap_to_avoid_ambiguous_else (branch? x)
-wrapped x e =
-    subst (λ (v : Stmt). block (stmt_then v no_stmts) ≡ wrap_to_avoid_ambiguous_else (branch? v)) (sym (of_kind (branch? x) e).3) refl
+wrapped x e = rw (of_kind (branch? x) e).3 refl
 
 pub not_wrapped : {x : Stmt} (v : Branch? x) → (branch_kind v ≢ FullIf) → x ≡ wrap_to_avoid_ambiguous_else v
 not_wrapped (is_expression e) n = refl
@@ -100,11 +93,7 @@ not_wrapped no_branch n = refl
 
 pub alone_in_braces : (t : Expr) (x : Stmt) → FullIf ≡ branch_kind (branch? x)
     → if_then t (block (stmt_then x no_stmts)) no_alternate ≡ minimize_if_alone t (branch? x)
-alone_in_braces t x e =
-    subst (λ (v : Stmt). if_then t (block (stmt_then v no_stmts)) no_alternate ≡ minimize_if_alone t (branch? v)) (sym (of_kind (branch? x) e).3) refl
-
-pub alone_as_it_is : (t : Expr) {x : Stmt} (v : Branch? x) → Other ≡ branch_kind v → if_then t x no_alternate ≡ minimize_if_alone t v
-alone_as_it_is t {x} v e = ap (λ (u : Branch? x). minimize_if_alone t u) (sym (of_kind v e))
+alone_in_braces t x e = rw (of_kind (branch? x) e).3 refl
 
 pub else_swaps : (t : Expr) {c x : Stmt} (v : Branch? c) (w : Branch? x) → (branch_kind v ≢ Expression)
     → swap_branches (not? t) c w ≡ minimize_if_else t v w

@@ -1,5 +1,5 @@
 -- The first records of a statement tell which view it has.
-use mathlib.Core.Path.{◌≡◌, ◌∙◌, ap, refl, subst, sym}
+use mathlib.Core.Path.{◌≡◌, ◌∙◌, ap, refl, sym}
 use mathlib.Core.Bool.{false, true}
 use mathlib.Core.List.{List}
 use mathlib.Core.Logic.{◌≢◌}
@@ -24,24 +24,19 @@ use Rattle.rules.specs.Ifs.{branch?, empty?}
 use Rattle.moves.specs.First.{expr_kind, stmt_decls, stmt_exprs, stmt_kind, stmt_stmts}
 use Rattle.rules.specs.Folding.{is_if}
 use Rattle.moves.proofs.ByKind.{stmt_of_kind}
-use Rattle.moves.proofs.First.{expr_first, stmt_first}
+use Rattle.moves.proofs.First.{stmt_first}
 use Rattle.branching.specs.declared.views.Branch.TheVariants.{Expression, FullIf, LoneIf, Other}
 use Rattle.branching.specs.Views.{Shows, branch_kind, is_nothing}
-use Rattle.moves.proofs.Open.{label_expr, label_stmt}
+use Rattle.moves.proofs.Open.{label_stmt}
+use Rattle.joining.proofs.WayToLast.{kind_there as expr_kind_there}
 
 module _ (h : Heap) (i : ℕ) where
   first_there : (x : Stmt) (w : Row) → At h (stmt_at i) (stmt_row x w)
       → At h (stmt_at i) (node (stmt_label (stmt_kind x)) (stmt_exprs x) (stmt_stmts x) (stmt_decls x) w)
-  first_there x w a = subst (λ (r : Row). At h (stmt_at i) r) (stmt_first x w) a
+  first_there x w a = rw (stmt_first x w) at a
 
   pub kind_there : (x : Stmt) (w : Row) → At h (stmt_at i) (stmt_row x w) → (get_or h.stmts i blank_stmt).kind ≡ stmt_kind x
   kind_there x w a = ap (λ (l : Label). label_stmt l (stmt_kind x)) (first_there x w a).1
-
-  pub stmts_there : (x : Stmt) (w : Row) → At h (stmt_at i) (stmt_row x w) → At h (stmt_at (get_or h.stmts i blank_stmt).stmts) (stmt_stmts x)
-  stmts_there x w a = (first_there x w a).3
-
-  pub behind_there : (x : Stmt) (w : Row) → At h (stmt_at i) (stmt_row x w) → At h (stmt_at (get_or h.stmts i blank_stmt).next) w
-  behind_there x w a = (first_there x w a).5
 
   -- a statement is somewhere
   pub somewhere : Short h → (x : Stmt) (w : Row) → At h (stmt_at i) (stmt_row x w) → i ≢ nowhere
@@ -50,14 +45,17 @@ module _ (h : Heap) (i : ℕ) where
 -- what stands behind, by the record that was read
 pub behind_read : (h : Heap) (i : ℕ) (stmt : StmtRecord) → stmt ≡ get_or h.stmts i blank_stmt → (x : Stmt) (w : Row)
     → At h (stmt_at i) (stmt_row x w) → At h (stmt_at stmt.next) w
-behind_read h i stmt r x w a = subst (λ (v : StmtRecord). At h (stmt_at v.next) w) (sym r) (behind_there h i x w a)
+behind_read h i stmt r x w a = rw r (first_there h i x w a).5
+
+-- the row of its statements
+pub stmts_read : (h : Heap) (i : ℕ) (stmt : StmtRecord) → stmt ≡ get_or h.stmts i blank_stmt → (x : Stmt) (w : Row)
+    → At h (stmt_at i) (stmt_row x w) → At h (stmt_at stmt.stmts) (stmt_stmts x)
+stmts_read h i stmt r x w a = rw r (first_there h i x w a).3
 
 -- the kind of an expression
 pub expr_kind_read : (h : Heap) (i : ℕ) (expr : ExprRecord) → expr ≡ get_or h.exprs i blank_expr → (e : Expr) (w : Row)
     → At h (expr_at i) (expr_row e w) → expr.kind ≡ expr_kind e
-expr_kind_read h i expr r e w a =
-    ap (λ (v : ExprRecord). v.kind) r
-    ∙ ap (λ (l : Label). label_expr l (expr_kind e)) (subst (λ (v : Row). At h (expr_at i) v) (expr_first e w) a).1
+expr_kind_read h i expr r e w a = rw r (expr_kind_there h i e w a)
 
 -- the statement is empty, or a block of none
 
@@ -132,20 +130,16 @@ no_if continue n = refl
 module _ (stmts : List StmtRecord) (at : ℕ) (stmt : StmtRecord) (read : stmt ≡ get_or stmts at blank_stmt) where
   kind_read : (es : List ExprRecord) (ds : List DeclRecord) (x : Stmt) (w : Row) → At (tables es stmts ds) (stmt_at at) (stmt_row x w)
       → stmt.kind ≡ stmt_kind x
-  kind_read es ds x w a = ap (λ (v : StmtRecord). v.kind) read ∙ kind_there (tables es stmts ds) at x w a
+  kind_read es ds x w a = rw read (kind_there (tables es stmts ds) at x w a)
 
   pub empty_shown : stmt.kind ≡ kind.Empty → Shows (λ x. is_nothing (empty? x)) stmts at true
   empty_shown k es ds x w s a =
-      subst (λ (v : Stmt). true ≡ is_nothing (empty? v)) (sym (stmt_of_kind x (sym k ∙ kind_read es ds x w a))) refl
+      rw (stmt_of_kind x (sym k ∙ kind_read es ds x w a)) refl
 
   pub block_shown : stmt.kind ≡ kind.Block → Shows (λ x. is_nothing (empty? x)) stmts at (eqb stmt.stmts nowhere)
   block_shown k es ds x w s a =
       let b = stmt_of_kind x (sym k ∙ kind_read es ds x w a) in
-      let there = stmts_there (tables es stmts ds) at (block b.0) w
-      (subst (λ (v : Stmt). At (tables es stmts ds) (stmt_at at) (stmt_row v w)) b.1 a) in
-      subst (λ (v : Stmt). eqb stmt.stmts nowhere ≡ is_nothing (empty? v)) (sym b.1)
-      (block_nothing (tables es stmts ds) stmt.stmts b.0 s
-      (subst (λ (v : StmtRecord). At (tables es stmts ds) (stmt_at v.stmts) (stmts_row b.0)) (sym read) there))
+      rw b.1 (block_nothing (tables es stmts ds) stmt.stmts b.0 s (stmts_read (tables es stmts ds) at stmt read (block b.0) w (rw b.1 at a)))
 
   pub nothing_not_shown : (stmt.kind ≢ kind.Empty) → (stmt.kind ≢ kind.Block) → Shows (λ x. is_nothing (empty? x)) stmts at false
   nothing_not_shown m n es ds x w s a =
@@ -153,8 +147,7 @@ module _ (stmts : List StmtRecord) (at : ℕ) (stmt : StmtRecord) (read : stmt �
 
   pub expression_shown : stmt.kind ≡ kind.Expression → Shows (λ x. branch_kind (branch? x)) stmts at Expression
   expression_shown k es ds x w s a =
-      let b = stmt_of_kind x (sym k ∙ kind_read es ds x w a) in
-      subst (λ (v : Stmt). Expression ≡ branch_kind (branch? v)) (sym b.1) refl
+      let b = stmt_of_kind x (sym k ∙ kind_read es ds x w a) in rw b.1 refl
 
   pub other_shown : (stmt.kind ≢ kind.Expression) → (stmt.kind ≢ kind.If) → Shows (λ x. branch_kind (branch? x)) stmts at Other
   other_shown m n es ds x w s a =
@@ -162,8 +155,7 @@ module _ (stmts : List StmtRecord) (at : ℕ) (stmt : StmtRecord) (read : stmt �
 
   pub if_shown : stmt.kind ≡ kind.If → Shows (λ x. is_if (branch? x)) stmts at true
   if_shown k es ds x w s a =
-      let b = stmt_of_kind x (sym k ∙ kind_read es ds x w a) in
-      subst (λ (v : Stmt). true ≡ is_if (branch? v)) (sym b.3) (an_if b.0 b.1 b.2)
+      let b = stmt_of_kind x (sym k ∙ kind_read es ds x w a) in rw b.3 (an_if b.0 b.1 b.2)
 
   pub no_if_shown : (stmt.kind ≢ kind.If) → Shows (λ x. is_if (branch? x)) stmts at false
   no_if_shown n es ds x w s a = no_if x (λ z. n (kind_read es ds x w a ∙ z))
@@ -173,23 +165,14 @@ module _ (stmts : List StmtRecord) (at : ℕ) (stmt : StmtRecord) (read : stmt �
     behind_consequent : (es : List ExprRecord) (ds : List DeclRecord) (t : Expr) (c : Stmt) (a : Alternate) (w : Row)
         → At (tables es stmts ds) (stmt_at at) (stmt_row (if_then t c a) w) → At (tables es stmts ds) (stmt_at consequent.next) (alternate_row a)
     behind_consequent es ds t c a w there =
-        let b = stmts_there (tables es stmts ds) at (if_then t c a) w there in
-        let d = subst (λ (v : StmtRecord). At (tables es stmts ds) (stmt_at v.stmts) (stmt_row c (alternate_row a))) (sym read) b in
-        subst (λ (v : StmtRecord). At (tables es stmts ds) (stmt_at v.next) (alternate_row a)) (sym told)
-        (behind_there (tables es stmts ds) stmt.stmts c (alternate_row a) d)
+        behind_read (tables es stmts ds) stmt.stmts consequent told c (alternate_row a) (stmts_read (tables es stmts ds) at stmt read (if_then t c a) w there)
 
     pub lone_shown : stmt.kind ≡ kind.If → consequent.next ≡ nowhere → Shows (λ x. branch_kind (branch? x)) stmts at LoneIf
     lone_shown k z es ds x w s a =
         let b = stmt_of_kind x (sym k ∙ kind_read es ds x w a) in
-        subst (λ (v : Stmt). LoneIf ≡ branch_kind (branch? v)) (sym b.3)
-        (lone_branch (tables es stmts ds) consequent.next b.0 b.1 b.2 s
-        (behind_consequent es ds b.0 b.1 b.2 w
-        (subst (λ (v : Stmt). At (tables es stmts ds) (stmt_at at) (stmt_row v w)) b.3 a)) z)
+        rw b.3 (lone_branch (tables es stmts ds) consequent.next b.0 b.1 b.2 s (behind_consequent es ds b.0 b.1 b.2 w (rw b.3 at a)) z)
 
     pub full_shown : stmt.kind ≡ kind.If → (consequent.next ≢ nowhere) → Shows (λ x. branch_kind (branch? x)) stmts at FullIf
     full_shown k n es ds x w s a =
         let b = stmt_of_kind x (sym k ∙ kind_read es ds x w a) in
-        subst (λ (v : Stmt). FullIf ≡ branch_kind (branch? v)) (sym b.3)
-        (full_branch (tables es stmts ds) consequent.next b.0 b.1 b.2 s
-        (behind_consequent es ds b.0 b.1 b.2 w
-        (subst (λ (v : Stmt). At (tables es stmts ds) (stmt_at at) (stmt_row v w)) b.3 a)) n)
+        rw b.3 (full_branch (tables es stmts ds) consequent.next b.0 b.1 b.2 s (behind_consequent es ds b.0 b.1 b.2 w (rw b.3 at a)) n)

@@ -1,4 +1,5 @@
-// The rows of branches: one cut off, two in the other order, a record given back for the parts of it.
+// The rows of branches: two in the other order, a record given back for the parts of it.
+// A routine is lent the tables that it works on and no others: those are known to stay with no clause.
 ghost use Rattle.std.specs.Prelude.{◌≡◌, List, [], ◌∷◌};
 ghost use Rattle.pool.specs.declared.Pool.{Pool as Spare};
 ghost use Rattle.script.specs.Tree.{Expr, Stmt, expression, not};
@@ -17,31 +18,10 @@ ghost use Rattle.moves.specs.Moved.{Turns};
 ghost use Rattle.branching.specs.Views.{swaps};
 
 use crate::views::is_if;
-use moves::{expr_at, give, link_stmt, set, stmt_at};
+use moves::{detach, give, link, record_at};
 use pool::{NOWHERE, Pool};
 use records::{ExprRecord, StmtRecord};
 use script::ExpressionKind;
-
-// Cuts the first statement of a row off; what was behind it is the result.
-pub fn detach(stmts: &mut [StmtRecord], row: u32) -> u32
-    ensures { (es : List ExprEntry) (ds : List DeclEntry) (p : Pools) (x : Stmt) (w : Row) →
-        Turns (tables es stmts.old ds) p (tables es stmts.new ds) p
-        [] ((stmt_at row, stmt_row x w) ∷ []) ((stmt_at row, stmt_row x end) ∷ (stmt_at result, w) ∷ []) }
-{
-    let stmt = stmt_at(stmts, row);
-    set(
-        stmts,
-        row,
-        StmtRecord {
-            kind: stmt.kind,
-            exprs: stmt.exprs,
-            stmts: stmt.stmts,
-            decls: stmt.decls,
-            next: NOWHERE,
-        },
-    );
-    stmt.next
-}
 
 // Puts two branches in the other order.
 pub fn exchange(stmts: &mut [StmtRecord], branches: u32) -> u32
@@ -50,7 +30,7 @@ pub fn exchange(stmts: &mut [StmtRecord], branches: u32) -> u32
         [] ((stmt_at branches, stmt_row c (stmt_row x end)) ∷ []) ((stmt_at result, stmt_row x (stmt_row c end)) ∷ []) }
 {
     let other = detach(stmts, branches);
-    link_stmt(stmts, other, branches);
+    link(stmts, other, branches);
     other
 }
 
@@ -61,7 +41,7 @@ pub fn open_expression(stmts: &mut [StmtRecord], spares: &mut Pool, at: u32) -> 
         (tables es stmts.new ds) (record { exprs = a; stmts = spares.new; decls = d })
         [] ((stmt_at at, stmt_row (expression e) end) ∷ []) ((expr_at result, expr_row e end) ∷ []) }
 {
-    let stmt = stmt_at(stmts, at);
+    let stmt = record_at(stmts, at);
     give(spares, stmts, at);
     stmt.exprs
 }
@@ -73,7 +53,7 @@ pub fn open_not(exprs: &mut [ExprRecord], spares: &mut Pool, at: u32) -> u32
         (tables exprs.new ss ds) (record { exprs = spares.new; stmts = s; decls = d })
         [] ((expr_at at, expr_row (not e) end) ∷ []) ((expr_at result, expr_row e end) ∷ []) }
 {
-    let expr = expr_at(exprs, at);
+    let expr = record_at(exprs, at);
     give(spares, exprs, at);
     expr.first
 }
@@ -84,10 +64,8 @@ pub fn can_swap(exprs: &[ExprRecord], stmts: &[StmtRecord], test: u32, branches:
         At (tables exprs.now stmts.now ds) (expr_at test) (expr_row t v) →
         At (tables exprs.now stmts.now ds) (stmt_at branches) (stmt_row c (stmt_row x w)) → result ≡ swaps (not? t) (branch? x) }
 {
-    let expr = expr_at(exprs, test);
-    if let ExpressionKind::Not = expr.kind {
-        let consequent = stmt_at(stmts, branches);
-        return !is_if(stmts, consequent.next);
+    match record_at(exprs, test).kind {
+        ExpressionKind::Not => !is_if(stmts, record_at(stmts, branches).next),
+        _ => false,
     }
-    false
 }

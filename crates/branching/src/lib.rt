@@ -4,8 +4,10 @@
 mod branches;
 mod logical;
 mod minimize;
+mod parts;
 mod statements;
 mod views;
 
 pub use minimize::try_minimize_if;
+pub use parts::IfParts;
 pub use views::is_if;

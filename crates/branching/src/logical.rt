@@ -1,4 +1,5 @@
 // An `if` as a logical expression.
+// A routine is lent the tables that it works on and no others: those are known to stay with no clause.
 ghost use Rattle.std.specs.Prelude.{cond, List, [], ◌∷◌, ◌≤◌};
 ghost use Rattle.script.specs.Tree.{Expr};
 ghost use Rattle.records.specs.declared.record.DeclRecord.{DeclRecord as DeclEntry};
@@ -37,9 +38,9 @@ fn to_logical(
     if has_negated_result(exprs, test) {
         minimize_not(exprs, pools, test);
         join_with_left_associative_op(exprs, pools, turned, test, expr);
-        return;
+    } else {
+        join_with_left_associative_op(exprs, pools, plain, test, expr);
     }
-    join_with_left_associative_op(exprs, pools, plain, test, expr);
 }
 
 // `if (t) e` as `t && e`.

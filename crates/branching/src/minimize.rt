@@ -1,4 +1,5 @@
-// The rules on an `if`: the record of the `if` is free, its test and the row of its branches are in hand.
+// The rules on an `if` that was taken apart.
+// A routine is lent the tables that it works on and no others: those are known to stay with no clause.
 ghost use Rattle.std.specs.Prelude.{true, List, [], ◌∷◌, ◌≡◌, ◌≤◌};
 ghost use Rattle.script.specs.declared.LogicalOperator.TheVariants.{And};
 ghost use Rattle.script.specs.Tree.{Alternate, Expr, Stmt, expression, if_then, no_alternate};
@@ -11,21 +12,24 @@ ghost use Rattle.rules.specs.Budget.{to_take};
 ghost use Rattle.rules.specs.Expressions.{join_with_left_associative_op, minimize_conditional, not?};
 ghost use Rattle.rules.specs.Ifs.{branch?, empty?, is_expression, minimize_empty_alone, minimize_empty_else, minimize_empty_if, minimize_full_if};
 ghost use Rattle.rules.specs.Ifs.{minimize_if_alone, minimize_if_else, swap_branches, try_minimize_if, wrap_to_avoid_ambiguous_else};
+ghost use Rattle.moves.specs.Lent.{Makes, SameSlices};
 ghost use Rattle.moves.specs.Moved.{Turns};
 ghost use Rattle.joining.specs.Needs.{Enough, slack};
+ghost use Rattle.branching.specs.Parts.{Becomes};
 ghost use Rattle.branching.specs.Views.{is_nothing};
 
-use crate::branches::{can_swap, detach, exchange, open_expression, open_not};
+use crate::branches::{can_swap, exchange, open_expression, open_not};
 use crate::logical::{else_to_logical, if_to_logical};
+use crate::parts::IfParts;
 use crate::statements::{
     put_in_braces, wrap_to_avoid_ambiguous_else, write_empty, write_expression, write_if,
 };
 use crate::views::{Branch, branch_of, is_empty};
 use hosts::Host;
 use joining::{join_with_left_associative_op, minimize_conditional, minimize_not};
-use moves::{drop_expr_row, give, stmt_at};
+use moves::{Tables, detach, drop_expr_row, give, record_at};
 use pool::NOWHERE;
-use records::{DeclRecord, ExprRecord, Pools, StmtRecord};
+use records::{ExprRecord, Pools, StmtRecord};
 use script::LogicalOperator;
 
 // `if (!t) c else x` as `if (t) x else c`, unless x is an `if`.
@@ -33,23 +37,20 @@ fn swap_branches(
     exprs: &mut [ExprRecord],
     stmts: &mut [StmtRecord],
     pools: &mut Pools,
-    at: u32,
-    test: u32,
-    branches: u32,
+    parts: IfParts,
 )
     ensures { (ds : List DeclEntry) (t : Expr) (c x : Stmt) → Enough (to_take 0 1) pools.old →
-        Turns (tables exprs.old stmts.old ds) pools.old (tables exprs.new stmts.new ds) pools.new
-        (stmt_at at ∷ []) ((expr_at test, expr_row t end) ∷ (stmt_at branches, stmt_row c (stmt_row x end)) ∷ [])
-        ((stmt_at at, stmt_row (swap_branches (not? t) c (branch? x)) end) ∷ []) }
+        Becomes parts (tables exprs.old stmts.old ds) pools.old (tables exprs.new stmts.new ds) pools.new
+        t (stmt_row c (stmt_row x end)) (swap_branches (not? t) c (branch? x)) }
 {
-    if can_swap(exprs, stmts, test, branches) {
-        let expr = open_not(exprs, &mut pools.exprs, test);
-        let swapped = exchange(stmts, branches);
-        write_if(stmts, at, expr, swapped);
-        return;
+    if can_swap(exprs, stmts, parts.test, parts.branches) {
+        let expr = open_not(exprs, &mut pools.exprs, parts.test);
+        let swapped = exchange(stmts, parts.branches);
+        write_if(stmts, parts.at, expr, swapped);
+    } else {
+        let wrapped = wrap_to_avoid_ambiguous_else(stmts, &mut pools.stmts, parts.branches);
+        write_if(stmts, parts.at, parts.test, wrapped);
     }
-    let wrapped = wrap_to_avoid_ambiguous_else(stmts, &mut pools.stmts, branches);
-    write_if(stmts, at, test, wrapped);
 }
 
 // `t ? x : y` of two expression statements, whose records are given back.
@@ -76,22 +77,19 @@ fn minimize_expression_else(
     exprs: &mut [ExprRecord],
     stmts: &mut [StmtRecord],
     pools: &mut Pools,
-    at: u32,
-    test: u32,
-    branches: u32,
+    parts: IfParts,
 )
     ensures { (ds : List DeclEntry) (t e : Expr) (x : Stmt) → 1 ≤ pools.old.exprs.count →
-        Turns (tables exprs.old stmts.old ds) pools.old (tables exprs.new stmts.new ds) pools.new
-        (stmt_at at ∷ []) ((expr_at test, expr_row t end) ∷ (stmt_at branches, stmt_row (expression e) (stmt_row x end)) ∷ [])
-        ((stmt_at at, stmt_row (minimize_if_else t (is_expression e) (branch? x)) end) ∷ []) }
+        Becomes parts (tables exprs.old stmts.old ds) pools.old (tables exprs.new stmts.new ds) pools.new
+        t (stmt_row (expression e) (stmt_row x end)) (minimize_if_else t (is_expression e) (branch? x)) }
 {
-    let stmt = stmt_at(stmts, branches);
+    let stmt = record_at(stmts, parts.branches);
     if let Branch::Expression = branch_of(stmts, stmt.next) {
-        branches_to_conditional(exprs, stmts, pools, test, branches);
-        write_expression(stmts, at, test);
-        return;
+        branches_to_conditional(exprs, stmts, pools, parts.test, parts.branches);
+        write_expression(stmts, parts.at, parts.test);
+    } else {
+        write_if(stmts, parts.at, parts.test, parts.branches);
     }
-    write_if(stmts, at, test, branches);
 }
 
 // An `if` with an alternate.
@@ -99,20 +97,17 @@ fn minimize_if_else(
     exprs: &mut [ExprRecord],
     stmts: &mut [StmtRecord],
     pools: &mut Pools,
-    at: u32,
-    test: u32,
-    branches: u32,
+    parts: IfParts,
 )
     ensures { (ds : List DeclEntry) (t : Expr) (c x : Stmt) → Enough (to_take 1 1) pools.old →
-        Turns (tables exprs.old stmts.old ds) pools.old (tables exprs.new stmts.new ds) pools.new
-        (stmt_at at ∷ []) ((expr_at test, expr_row t end) ∷ (stmt_at branches, stmt_row c (stmt_row x end)) ∷ [])
-        ((stmt_at at, stmt_row (minimize_if_else t (branch? c) (branch? x)) end) ∷ []) }
+        Becomes parts (tables exprs.old stmts.old ds) pools.old (tables exprs.new stmts.new ds) pools.new
+        t (stmt_row c (stmt_row x end)) (minimize_if_else t (branch? c) (branch? x)) }
 {
-    if let Branch::Expression = branch_of(stmts, branches) {
-        minimize_expression_else(exprs, stmts, pools, at, test, branches);
-        return;
+    if let Branch::Expression = branch_of(stmts, parts.branches) {
+        minimize_expression_else(exprs, stmts, pools, parts);
+    } else {
+        swap_branches(exprs, stmts, pools, parts);
     }
-    swap_branches(exprs, stmts, pools, at, test, branches);
 }
 
 // Joins the test of an inner `if` to the outer test; its body is the result, and its record is given back.
@@ -126,9 +121,10 @@ fn merge_inner_if(
     ensures { (ds : List DeclEntry) (t u : Expr) (x : Stmt) → Enough (to_take 1 1) pools.old →
         Turns (tables exprs.old stmts.old ds) pools.old (tables exprs.new stmts.new ds) pools.new
         [] ((expr_at test, expr_row t end) ∷ (stmt_at inner, stmt_row (if_then u x no_alternate) end) ∷ [])
-        ((expr_at test, expr_row (join_with_left_associative_op And t u) end) ∷ (stmt_at result, stmt_row (wrap_to_avoid_ambiguous_else (branch? x)) end) ∷ []) }
+        ((expr_at test, expr_row (join_with_left_associative_op And t u) end)
+        ∷ (stmt_at result, stmt_row (wrap_to_avoid_ambiguous_else (branch? x)) end) ∷ []) }
 {
-    let stmt = stmt_at(stmts, inner);
+    let stmt = record_at(stmts, inner);
     let body = wrap_to_avoid_ambiguous_else(stmts, &mut pools.stmts, stmt.stmts);
     join_with_left_associative_op(exprs, pools, LogicalOperator::And, test, stmt.exprs);
     give(&mut pools.stmts, stmts, inner);
@@ -140,31 +136,28 @@ fn minimize_if_alone(
     exprs: &mut [ExprRecord],
     stmts: &mut [StmtRecord],
     pools: &mut Pools,
-    at: u32,
-    test: u32,
-    branch: u32,
+    parts: IfParts,
 )
     ensures { (ds : List DeclEntry) (t : Expr) (x : Stmt) → Enough (to_take 2 1) pools.old →
-        Turns (tables exprs.old stmts.old ds) pools.old (tables exprs.new stmts.new ds) pools.new
-        (stmt_at at ∷ []) ((expr_at test, expr_row t end) ∷ (stmt_at branch, stmt_row x end) ∷ [])
-        ((stmt_at at, stmt_row (minimize_if_alone t (branch? x)) end) ∷ []) }
+        Becomes parts (tables exprs.old stmts.old ds) pools.old (tables exprs.new stmts.new ds) pools.new
+        t (stmt_row x end) (minimize_if_alone t (branch? x)) }
 {
-    match branch_of(stmts, branch) {
+    match branch_of(stmts, parts.branches) {
         Branch::Expression => {
-            let expr = open_expression(stmts, &mut pools.stmts, branch);
-            if_to_logical(exprs, pools, test, expr);
-            write_expression(stmts, at, test);
+            let expr = open_expression(stmts, &mut pools.stmts, parts.branches);
+            if_to_logical(exprs, pools, parts.test, expr);
+            write_expression(stmts, parts.at, parts.test);
         }
         Branch::LoneIf => {
-            let body = merge_inner_if(exprs, stmts, pools, test, branch);
-            write_if(stmts, at, test, body);
+            let body = merge_inner_if(exprs, stmts, pools, parts.test, parts.branches);
+            write_if(stmts, parts.at, parts.test, body);
         }
         Branch::FullIf => {
-            let braces = put_in_braces(stmts, &mut pools.stmts, branch);
-            write_if(stmts, at, test, braces);
+            let braces = put_in_braces(stmts, &mut pools.stmts, parts.branches);
+            write_if(stmts, parts.at, parts.test, braces);
         }
         Branch::Other => {
-            write_if(stmts, at, test, branch);
+            write_if(stmts, parts.at, parts.test, parts.branches);
         }
     }
 }
@@ -174,21 +167,18 @@ fn minimize_full_if(
     exprs: &mut [ExprRecord],
     stmts: &mut [StmtRecord],
     pools: &mut Pools,
-    at: u32,
-    test: u32,
-    branches: u32,
+    parts: IfParts,
 )
     ensures { (ds : List DeclEntry) (t : Expr) (c : Stmt) (a : Alternate) → Enough (to_take 2 1) pools.old →
-        Turns (tables exprs.old stmts.old ds) pools.old (tables exprs.new stmts.new ds) pools.new
-        (stmt_at at ∷ []) ((expr_at test, expr_row t end) ∷ (stmt_at branches, stmt_row c (alternate_row a)) ∷ [])
-        ((stmt_at at, stmt_row (minimize_full_if t c a) end) ∷ []) }
+        Becomes parts (tables exprs.old stmts.old ds) pools.old (tables exprs.new stmts.new ds) pools.new
+        t (stmt_row c (alternate_row a)) (minimize_full_if t c a) }
 {
-    let stmt = stmt_at(stmts, branches);
+    let stmt = record_at(stmts, parts.branches);
     if stmt.next == NOWHERE {
-        minimize_if_alone(exprs, stmts, pools, at, test, branches);
-        return;
+        minimize_if_alone(exprs, stmts, pools, parts);
+    } else {
+        minimize_if_else(exprs, stmts, pools, parts);
     }
-    minimize_if_else(exprs, stmts, pools, at, test, branches);
 }
 
 // `if (t);` as `t`, or nothing.
@@ -208,9 +198,9 @@ fn minimize_empty_alone<H: Host>(
     if host.is_harmless(exprs, test) {
         drop_expr_row(exprs, pools, test);
         write_empty(stmts, at);
-        return;
+    } else {
+        write_expression(stmts, at, test);
     }
-    write_expression(stmts, at, test);
 }
 
 // `if (t); else x` as `if (!t) x`.
@@ -218,45 +208,39 @@ fn minimize_empty_else(
     exprs: &mut [ExprRecord],
     stmts: &mut [StmtRecord],
     pools: &mut Pools,
-    at: u32,
-    test: u32,
-    other: u32,
+    parts: IfParts,
 )
     ensures { (ds : List DeclEntry) (t : Expr) (x : Stmt) → Enough (to_take 3 1) pools.old →
-        Turns (tables exprs.old stmts.old ds) pools.old (tables exprs.new stmts.new ds) pools.new
-        (stmt_at at ∷ []) ((expr_at test, expr_row t end) ∷ (stmt_at other, stmt_row x end) ∷ [])
-        ((stmt_at at, stmt_row (minimize_empty_else t (branch? x)) end) ∷ []) }
+        Becomes parts (tables exprs.old stmts.old ds) pools.old (tables exprs.new stmts.new ds) pools.new
+        t (stmt_row x end) (minimize_empty_else t (branch? x)) }
 {
-    if let Branch::Expression = branch_of(stmts, other) {
-        let expr = open_expression(stmts, &mut pools.stmts, other);
-        else_to_logical(exprs, pools, test, expr);
-        write_expression(stmts, at, test);
-        return;
+    if let Branch::Expression = branch_of(stmts, parts.branches) {
+        let expr = open_expression(stmts, &mut pools.stmts, parts.branches);
+        else_to_logical(exprs, pools, parts.test, expr);
+        write_expression(stmts, parts.at, parts.test);
+    } else {
+        minimize_not(exprs, pools, parts.test);
+        minimize_if_alone(exprs, stmts, pools, parts);
     }
-    minimize_not(exprs, pools, test);
-    minimize_if_alone(exprs, stmts, pools, at, test, other);
 }
 
-// What an `if` without its empty consequent is; `other` may be nowhere.
+// What an `if` without its empty consequent is: the row has its alternate or nothing.
 fn minimize_without_consequent<H: Host>(
     host: &H,
     exprs: &mut [ExprRecord],
     stmts: &mut [StmtRecord],
     pools: &mut Pools,
-    at: u32,
-    test: u32,
-    other: u32,
+    parts: IfParts,
 )
     ensures { (ds : List DeclEntry) (t : Expr) (a : Alternate) → Enough (to_take 3 1) pools.old →
-        Turns (tables exprs.old stmts.old ds) pools.old (tables exprs.new stmts.new ds) pools.new
-        (stmt_at at ∷ []) ((expr_at test, expr_row t end) ∷ (stmt_at other, alternate_row a) ∷ [])
-        ((stmt_at at, stmt_row (minimize_empty_if (H.meaning host.now) t a) end) ∷ []) }
+        Becomes parts (tables exprs.old stmts.old ds) pools.old (tables exprs.new stmts.new ds) pools.new
+        t (alternate_row a) (minimize_empty_if (H.meaning host.now) t a) }
 {
-    if other == NOWHERE {
-        minimize_empty_alone(host, exprs, stmts, pools, at, test);
-        return;
+    if parts.branches == NOWHERE {
+        minimize_empty_alone(host, exprs, stmts, pools, parts.at, parts.test);
+    } else {
+        minimize_empty_else(exprs, stmts, pools, parts);
     }
-    minimize_empty_else(exprs, stmts, pools, at, test, other);
 }
 
 // The consequent is empty, or a block of none: its record is given back.
@@ -265,41 +249,33 @@ fn minimize_empty_if<H: Host>(
     exprs: &mut [ExprRecord],
     stmts: &mut [StmtRecord],
     pools: &mut Pools,
-    at: u32,
-    test: u32,
-    branches: u32,
+    parts: IfParts,
 )
     ensures { (ds : List DeclEntry) (t : Expr) (c : Stmt) (a : Alternate) → is_nothing (empty? c) ≡ true → Enough (to_take 3 1) pools.old →
-        Turns (tables exprs.old stmts.old ds) pools.old (tables exprs.new stmts.new ds) pools.new
-        (stmt_at at ∷ []) ((expr_at test, expr_row t end) ∷ (stmt_at branches, stmt_row c (alternate_row a)) ∷ [])
-        ((stmt_at at, stmt_row (minimize_empty_if (H.meaning host.now) t a) end) ∷ []) }
+        Becomes parts (tables exprs.old stmts.old ds) pools.old (tables exprs.new stmts.new ds) pools.new
+        t (stmt_row c (alternate_row a)) (minimize_empty_if (H.meaning host.now) t a) }
 {
-    let stmt = stmt_at(stmts, branches);
-    minimize_without_consequent(host, exprs, stmts, pools, at, test, stmt.next);
-    give(&mut pools.stmts, stmts, branches);
+    let stmt = record_at(stmts, parts.branches);
+    let rest = IfParts {
+        branches: stmt.next,
+        ..parts
+    };
+    minimize_without_consequent(host, exprs, stmts, pools, rest);
+    give(&mut pools.stmts, stmts, parts.branches);
 }
 
 // An `if` by itself: a logical expression, a conditional, a smaller `if`, or nothing.
-pub fn try_minimize_if<H: Host>(
-    host: &H,
-    exprs: &mut [ExprRecord],
-    stmts: &mut [StmtRecord],
-    decls: &mut [DeclRecord],
-    pools: &mut Pools,
-    at: u32,
-    test: u32,
-    branches: u32,
-) -> u32
-    ensures { (t : Expr) (c : Stmt) (a : Alternate) → Enough slack pools.old →
-        Turns (tables exprs.old stmts.old decls.old) pools.old
-        (tables exprs.new stmts.new decls.new) pools.new
-        (stmt_at at ∷ []) ((expr_at test, expr_row t end) ∷ (stmt_at branches, stmt_row c (alternate_row a)) ∷ [])
+pub fn try_minimize_if<H: Host>(host: &H, tables: &mut Tables, parts: IfParts) -> u32
+    ensures lent { SameSlices tables.old tables.new }
+    ensures makes { (t : Expr) (c : Stmt) (a : Alternate) → Enough slack tables.old.pools →
+        Makes tables.old tables.new
+        (stmt_at parts.at ∷ []) ((expr_at parts.test, expr_row t end) ∷ (stmt_at parts.branches, stmt_row c (alternate_row a)) ∷ [])
         ((stmt_at result, stmt_row (try_minimize_if (H.meaning host.now) t c a) end) ∷ []) }
 {
-    if is_empty(stmts, branches) {
-        minimize_empty_if(host, exprs, stmts, pools, at, test, branches);
-        return at;
+    if is_empty(tables.stmts(), parts.branches) {
+        minimize_empty_if(host, tables.exprs, tables.stmts, &mut tables.pools, parts);
+    } else {
+        minimize_full_if(tables.exprs, tables.stmts, &mut tables.pools, parts);
     }
-    minimize_full_if(exprs, stmts, pools, at, test, branches);
-    at
+    parts.at
 }

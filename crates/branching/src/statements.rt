@@ -1,4 +1,5 @@
 // Statements written at a place that is free, and braces.
+// A routine is lent the tables that it works on and no others: those are known to stay with no clause.
 ghost use Rattle.std.specs.Prelude.{List, [], ◌∷◌, ◌≤◌};
 ghost use Rattle.pool.specs.declared.Pool.{Pool as Spare};
 ghost use Rattle.script.specs.Tree.{Alternate, Expr, Stmt, block, empty, expression, if_then, no_stmts, stmt_then};
@@ -12,12 +13,20 @@ ghost use Rattle.records.specs.Rows.{Row, end};
 ghost use Rattle.rules.specs.Ifs.{branch?, wrap_to_avoid_ambiguous_else};
 ghost use Rattle.moves.specs.Moved.{Turns};
 
-use crate::branches::detach;
 use crate::views::{Branch, branch_of};
-use moves::{set, take};
+use moves::{detach, set, take};
 use pool::{NOWHERE, Pool};
 use records::StmtRecord;
 use script::StatementKind;
+
+// An empty statement with nothing behind it.
+const EMPTY: StmtRecord = StmtRecord {
+    kind: StatementKind::Empty,
+    exprs: NOWHERE,
+    stmts: NOWHERE,
+    decls: NOWHERE,
+    next: NOWHERE,
+};
 
 // Writes an `if` with its test and one branch or two.
 pub fn write_if(stmts: &mut [StmtRecord], at: u32, test: u32, branches: u32)
@@ -33,8 +42,7 @@ pub fn write_if(stmts: &mut [StmtRecord], at: u32, test: u32, branches: u32)
             kind: StatementKind::If,
             exprs: test,
             stmts: branches,
-            decls: NOWHERE,
-            next: NOWHERE,
+            ..EMPTY
         },
     );
 }
@@ -51,9 +59,7 @@ pub fn write_expression(stmts: &mut [StmtRecord], at: u32, expr: u32)
         StmtRecord {
             kind: StatementKind::Expression,
             exprs: expr,
-            stmts: NOWHERE,
-            decls: NOWHERE,
-            next: NOWHERE,
+            ..EMPTY
         },
     );
 }
@@ -64,17 +70,7 @@ pub fn write_empty(stmts: &mut [StmtRecord], at: u32)
         Turns (tables es stmts.old ds) p (tables es stmts.new ds) p
         (stmt_at at ∷ []) [] ((stmt_at at, stmt_row empty end) ∷ []) }
 {
-    set(
-        stmts,
-        at,
-        StmtRecord {
-            kind: StatementKind::Empty,
-            exprs: NOWHERE,
-            stmts: NOWHERE,
-            decls: NOWHERE,
-            next: NOWHERE,
-        },
-    );
+    set(stmts, at, EMPTY);
 }
 
 // Puts the first statement of a row in braces.
@@ -91,10 +87,9 @@ pub fn put_in_braces(stmts: &mut [StmtRecord], spares: &mut Pool, row: u32) -> u
         braces,
         StmtRecord {
             kind: StatementKind::Block,
-            exprs: NOWHERE,
             stmts: row,
-            decls: NOWHERE,
             next: behind,
+            ..EMPTY
         },
     );
     braces
@@ -108,7 +103,8 @@ pub fn wrap_to_avoid_ambiguous_else(stmts: &mut [StmtRecord], spares: &mut Pool,
         [] ((stmt_at row, stmt_row x w) ∷ []) ((stmt_at result, stmt_row (wrap_to_avoid_ambiguous_else (branch? x)) w) ∷ []) }
 {
     if let Branch::FullIf = branch_of(stmts, row) {
-        return put_in_braces(stmts, spares, row);
+        put_in_braces(stmts, spares, row)
+    } else {
+        row
     }
-    row
 }

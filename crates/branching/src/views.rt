@@ -3,7 +3,7 @@ ghost use Rattle.rules.specs.Ifs.{branch?, empty?};
 ghost use Rattle.rules.specs.Folding.{is_if};
 ghost use Rattle.branching.specs.Views.{Shows, branch_kind, is_nothing};
 
-use moves::stmt_at;
+use moves::record_at;
 use pool::NOWHERE;
 use records::StmtRecord;
 use script::StatementKind;
@@ -21,7 +21,7 @@ pub enum Branch {
 pub fn is_empty(stmts: &[StmtRecord], at: u32) -> bool
     ensures { Shows (λ x. is_nothing (empty? x)) stmts.now at result }
 {
-    let stmt = stmt_at(stmts, at);
+    let stmt = record_at(stmts, at);
     match stmt.kind {
         StatementKind::Empty => true,
         StatementKind::Block => stmt.stmts == NOWHERE,
@@ -33,17 +33,11 @@ pub fn is_empty(stmts: &[StmtRecord], at: u32) -> bool
 pub fn branch_of(stmts: &[StmtRecord], at: u32) -> Branch
     ensures { Shows (λ x. branch_kind (branch? x)) stmts.now at result }
 {
-    let stmt = stmt_at(stmts, at);
+    let stmt = record_at(stmts, at);
     match stmt.kind {
         StatementKind::Expression => Branch::Expression,
-        StatementKind::If => {
-            let consequent = stmt_at(stmts, stmt.stmts);
-            if consequent.next == NOWHERE {
-                Branch::LoneIf
-            } else {
-                Branch::FullIf
-            }
-        }
+        StatementKind::If if record_at(stmts, stmt.stmts).next == NOWHERE => Branch::LoneIf,
+        StatementKind::If => Branch::FullIf,
         _ => Branch::Other,
     }
 }
@@ -52,9 +46,5 @@ pub fn branch_of(stmts: &[StmtRecord], at: u32) -> Branch
 pub fn is_if(stmts: &[StmtRecord], at: u32) -> bool
     ensures { Shows (λ x. is_if (branch? x)) stmts.now at result }
 {
-    let stmt = stmt_at(stmts, at);
-    if let StatementKind::If = stmt.kind {
-        return true;
-    }
-    false
+    matches!(record_at(stmts, at).kind, StatementKind::If)
 }

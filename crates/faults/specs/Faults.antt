@@ -1,8 +1,6 @@
 -- The number of each fault, and the fault that tells each refusal.
 use Rattle.std.specs.Prelude.{ℕ}
 use Rattle.pool.specs.declared.PoolFault.TheVariants.{Empty}
-use Rattle.script.specs.declared.Table.{Table}
-use Rattle.script.specs.declared.Table.TheVariants.{Expressions, Statements, Declarators}
 use Rattle.script.specs.Format.{Refusal, body_complete, no_command, bad_operand, too_few, misplaced, leftover, no_spare}
 use Rattle.faults.specs.declared.fault.SheetFault.{SheetFault}
 use Rattle.faults.specs.declared.fault.SheetFault.TheVariants.{Sizes, NotHeld, Spares, NoBody, ShortOutput}
@@ -26,12 +24,6 @@ read_number TooFew = 6
 read_number Misplaced = 7
 read_number Leftover = 8
 
--- the number by which a pool's fault names its table
-abbrev pub tag_of : Table → ℕ
-tag_of Expressions = 0
-tag_of Statements = 1
-tag_of Declarators = 2
-
 -- the fault that tells a refusal
 abbrev pub fault_of : Refusal → ReadFault
 fault_of body_complete = BodyComplete
@@ -40,4 +32,4 @@ fault_of bad_operand = BadOperand
 fault_of too_few = TooFew
 fault_of misplaced = Misplaced
 fault_of leftover = Leftover
-fault_of (no_spare t) = Sheet (Spares (Empty (tag_of t)))
+fault_of (no_spare t) = Sheet (Spares (Empty t))

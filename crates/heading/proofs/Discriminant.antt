@@ -20,7 +20,8 @@ use Rattle.moves.proofs.Frames.{arrange, then_move, then_use}
 use Rattle.moves.proofs.Spared.{spared}
 
 -- the spare records after an expression was worked: no more are taken than the results weigh
-pub worked_spares : {h h' : Heap} {p p' : Pools} {target results target' results' : ℕ} (loose : List Place) (rest : List Root) (e : Expr) (r : Stmts) (w : Worked)
+pub worked_spares : {h h' : Heap} {p p' : Pools} {target results target' results' : ℕ} (loose : List Place) (rest : List Root) (e : Expr) (r : Stmts)
+    (w : Worked)
     → Equals (lengths h) (lengths h') → AtMost (budget_worked w) (plus (exprs_only (records_expr e)) (budget_stmts r))
     → Owns h p loose ((expr_at target, expr_row e end) ∷ (stmt_at results, stmts_row r) ∷ rest)
     → Owns h' p' loose ((expr_at target', optional_row w.target end) ∷ (stmt_at results', stmts_row w.results) ∷ rest)
@@ -34,7 +35,8 @@ worked_spares {target = target} {results = results} {target' = target'} {results
     let x₄ = records_stmts_row w.results in
     record { exprs = omega arith; stmts = omega arith; decls = omega arith }
 
-module _ {h h₁ h₂ h₃ : Heap} {p p₁ p₂ p₃ : Pools} {loose : List Place} {rest : List Root} {at discriminant cases results target₁ results₁ target₂ results₂ res : ℕ} where
+module _ {h h₁ h₂ h₃ : Heap} {p p₁ p₂ p₃ : Pools} {loose : List Place} {rest : List Root}
+    {at discriminant cases results target₁ results₁ target₂ results₂ res : ℕ} where
   pub switch_done : (q : Bool) (d : Expr) (cs : Cases) (r : Stmts) → EnoughFor (switch d cs) r p → Equals (lengths h) (lengths h₂)
       → Turns h p h₁ p₁ [] ((expr_at discriminant, expr_row d end) ∷ (stmt_at results, stmts_row r) ∷ [])
       ((expr_at target₁, optional_row (merge_last_expression_into_sequence q d r).target end)
@@ -60,7 +62,8 @@ module _ {h h₁ h₂ h₃ : Heap} {p p₁ p₂ p₃ : Pools} {loose : List Plac
       -- a value that is wanted is there after the leading assignments
       by₂ : (t : OptionalExpr) (r₂ : Stmts) → records_expr (value_or_void_0 t) ≡ records_optional t
           → AtMost (budget_worked (record { target = t; results = r₂ })) (plus (exprs_only (records_expr d)) (budget_stmts r))
-          → Moved h h₂ p₂ (stmt_at at ∷ loose) ((expr_at target₂, optional_row t end) ∷ (stmt_at results₂, stmts_row r₂) ∷ (stmt_at cases, cases_row cs) ∷ rest)
+          → Moved h h₂ p₂ (stmt_at at ∷ loose) ((expr_at target₂, optional_row t end) ∷ (stmt_at results₂, stmts_row r₂)
+          ∷ (stmt_at cases, cases_row cs) ∷ rest)
           → Moved h h₃ p₃ loose ((stmt_at res, stmts_row (inline_switch_case q (value_or_void_0 t) (one_case? cs) r₂)) ∷ rest)
       by₂ absent r₂ v b k = absurd (omega arith)
       by₂ (present e) r₂ v b k =
@@ -71,7 +74,8 @@ module _ {h h₁ h₂ h₃ : Heap} {p p₁ p₂ p₃ : Pools} {loose : List Plac
       by₁ : (t : OptionalExpr) (r₁ : Stmts) → records_expr (value_or_void_0 t) ≡ records_optional t
           → AtMost (budget_worked (next_work t r₁ (λ e₁ r₂. merge_leading_assignments_to_declaration false e₁ r₂)))
           (plus (exprs_only (records_expr d)) (budget_stmts r))
-          → Moved h h₁ p₁ (stmt_at at ∷ loose) ((expr_at target₁, optional_row t end) ∷ (stmt_at results₁, stmts_row r₁) ∷ (stmt_at cases, cases_row cs) ∷ rest)
+          → Moved h h₁ p₁ (stmt_at at ∷ loose) ((expr_at target₁, optional_row t end) ∷ (stmt_at results₁, stmts_row r₁)
+          ∷ (stmt_at cases, cases_row cs) ∷ rest)
           → Moved h h₃ p₃ loose
           ((
             stmt_at res,

@@ -7,13 +7,15 @@ use Rattle.script.specs.declared.ForHead.{ForHead}
 use Rattle.script.specs.declared.ForInit.{ForInit}
 use Rattle.script.specs.declared.ForInit.TheVariants as init
 use Rattle.script.specs.declared.StatementKind.TheVariants as kind
-use Rattle.script.specs.Tree.{Declarators, Expr, Init, OptionalExpr, Stmt, Stmts, absent, declaration, expression, for, init_declaration, init_expression, no_init, present, stmt_then}
+use Rattle.script.specs.Tree.{Declarators, Expr, Init, OptionalExpr, Stmt, Stmts, absent, declaration, expression, for, init_declaration}
+use Rattle.script.specs.Tree.{init_expression, no_init, present, stmt_then}
 use Rattle.records.specs.declared.record.DeclRecord.{DeclRecord}
 use Rattle.records.specs.declared.record.ExprRecord.{ExprRecord}
 use Rattle.records.specs.declared.record.Pools.{Pools}
 use Rattle.records.specs.declared.record.StmtRecord.{StmtRecord}
-use Rattle.records.specs.Embedding.{declarators_row, expr_row, for_head as head_of, init_exprs, init_kind, init_stmts, is_present, optional_row, stmt_row, stmts_row}
-use Rattle.records.specs.Heap.{Heap, Place, blank_expr, blank_stmt, decl_at, expr_at, stmt_at}
+use Rattle.records.specs.Embedding.{declarators_row, expr_row, for_head as head_of, init_exprs, init_kind, init_stmts, is_present, optional_row}
+use Rattle.records.specs.Embedding.{stmt_row, stmts_row}
+use Rattle.records.specs.Heap.{Heap, Place, blank_stmt, decl_at, expr_at, stmt_at}
 use Rattle.records.specs.Owned.{Owns, Root}
 use Rattle.records.specs.Readable.{tables}
 use Rattle.records.specs.Rows.{Row, end}
@@ -26,12 +28,11 @@ use Rattle.rules.specs.Merging.{last_declaration?, merge_leading_assignments_to_
 use Rattle.rules.proofs.BudgetMerging.{merge_leading_budget}
 use Rattle.moves.specs.Moved.{Moved, Turns}
 use Rattle.moves.proofs.Frames.{arrange, regroup, stays, then_move, then_use}
-use Rattle.moves.proofs.Open.{close_expr, close_stmt, kind_of_expr, kind_of_stmt, open_expr, open_stmt}
+use Rattle.moves.proofs.Open.{close_stmt, kind_of_stmt, open_stmt}
 use Rattle.heading.specs.declared.heads.Front.{Front}
 use Rattle.heading.specs.Fronts.{HasHead, head_with, is_expression_kind, is_var, is_var_kind, joined_init, worked_head}
 use Rattle.heading.proofs.Discriminant.{worked_spares}
 use Rattle.heading.proofs.Newest.{expression_newest, newest, newest_told, no_expression_newest, no_var_before, no_var_newest, no_way, var_newest}
-use Rattle.heading.proofs.Pushing.{one_moves, relinked_stmt}
 use Rattle.heading.proofs.Told.{expr_somewhere}
 
 abbrev pub front : ForInit → ℕ → ℕ → ℕ → Front
@@ -66,12 +67,16 @@ module _ {h : Heap} {p : Pools} {loose : List Place} {rest : List Root} {values 
       as_head (no_var_newest r (sym (newest_told is_var_kind refl h results r o.short o.held.1.1.0) ∙ n)) (record { init = refl; moved = stays o })
 
 -- it is one, and its record goes before the body
-pub var_taken : {es : List ExprRecord} {stmts : List StmtRecord} {ds : List DeclRecord} {p : Pools} {loose : List Place} {rest : List Root} {values inner results : ℕ}
+pub var_taken : {es : List ExprRecord} {stmts stmts' : List StmtRecord} {ds : List DeclRecord} {p : Pools} {loose : List Place} {rest : List Root}
+    {values inner results behind : ℕ}
     (w y : Row) (r : Stmts) → is_var_kind (get_or stmts results blank_stmt).kind ≡ true
+    → ((x : Stmt) (u v : Row)
+    → Turns (tables es stmts ds) p (tables es stmts' ds) p
+    [] ((stmt_at results, stmt_row x u) ∷ (stmt_at inner, v) ∷ []) ((stmt_at behind, u) ∷ (stmt_at results, stmt_row x v) ∷ []))
     → Owns (tables es stmts ds) p loose ((expr_at values, w) ∷ (stmt_at inner, y) ∷ (stmt_at results, stmts_row r) ∷ rest)
-    → HasHead (tables es stmts ds) (tables es (set stmts results (relinked_stmt stmts results inner)) ds) p loose rest
-    (front init.Declaration values results (get_or stmts results blank_stmt).next) (declaration_into_head absent (last_declaration? r)) w y
-var_taken {es} {stmts} {ds} {p} {loose} {rest} {values} {inner} {results} w y r n o =
+    → HasHead (tables es stmts ds) (tables es stmts' ds) p loose rest
+    (front init.Declaration values results behind) (declaration_into_head absent (last_declaration? r)) w y
+var_taken {es} {stmts} {ds = ds} {p} {loose} {rest} {values} {inner} {results} w y r n moves o =
     let q = var_newest r (sym (newest_told is_var_kind refl (tables es stmts ds) results r o.short o.held.1.1.0) ∙ n) in
     let names = q.0 in
     let r' = q.1 in
@@ -79,29 +84,27 @@ var_taken {es} {stmts} {ds} {p} {loose} {rest} {values} {inner} {results} w y r 
     (record {
       init = refl;
       moved = regroup
-          (one_moves (declaration Var names) (stmts_row r') y
+          (moves (declaration Var names) (stmts_row r') y loose ((expr_at values, w) ∷ rest)
           (arrange (2 ∷ 1 ∷ [])
           (subst (λ (v : Stmts). Owns (tables es stmts ds) p loose ((expr_at values, w) ∷ (stmt_at inner, y) ∷ (stmt_at results, stmts_row v) ∷ rest)) q.2 o)))
-          (λ o₁. pick 2 o₁);
+          (λ o₁. arrange (2 ∷ 1 ∷ []) o₁);
     })
 
 -- an expression alone, or before the init
 module _ {h : Heap} {p : Pools} {loose : List Place} {rest : List Root} {a i : ℕ} where
-  pub joined_none : (x : Expr) (v : OptionalExpr) → i ≡ nowhere → Owns h p loose ((expr_at a, expr_row x end) ∷ (expr_at i, optional_row v end) ∷ rest)
-      → Moved h h p loose ((expr_at a, expr_row (joined_init x v) end) ∷ rest)
-  joined_none x absent z o = stays (end_out (pick 1 o))
-  joined_none x (present e) z o = absurd (expr_somewhere h i e end o.short o.held.1.0 z)
-
   pub joined_some : {h' : Heap} {p' : Pools} {b : ℕ} (x : Expr) (v : OptionalExpr) → i ≢ nowhere
-      → ((e : Expr) → Turns h p h' p' [] ((expr_at a, expr_row x end) ∷ (expr_at i, expr_row e end) ∷ []) ((expr_at b, expr_row (joined_init x (present e)) end) ∷ []))
+      → ((e : Expr) → Turns h p h' p' [] ((expr_at a, expr_row x end) ∷ (expr_at i, expr_row e end) ∷ [])
+      ((expr_at b, expr_row (joined_init x (present e)) end) ∷ []))
       → Owns h p loose ((expr_at a, expr_row x end) ∷ (expr_at i, optional_row v end) ∷ rest)
       → Moved h h' p' loose ((expr_at b, expr_row (joined_init x v) end) ∷ rest)
   joined_some x absent ne f o = absurd (ne o.held.1.0)
   joined_some x (present e) ne f o = f e loose rest o
 
 -- the parts of an expression statement among the results, whose record is loose then
-pub expression_opened : {h : Heap} {p : Pools} {loose : List Place} {rest : List Root} {i values inner results : ℕ} (v : OptionalExpr) (w y : Row) (a : Expr) (r : Stmts)
-    → Owns h p loose ((expr_at i, optional_row v end) ∷ (expr_at values, w) ∷ (stmt_at inner, y) ∷ (stmt_at results, stmts_row (stmt_then (expression a) r)) ∷ rest)
+pub expression_opened : {h : Heap} {p : Pools} {loose : List Place} {rest : List Root} {i values inner results : ℕ} (v : OptionalExpr) (w y : Row)
+    (a : Expr) (r : Stmts)
+    → Owns h p loose ((expr_at i, optional_row v end) ∷ (expr_at values, w) ∷ (stmt_at inner, y)
+    ∷ (stmt_at results, stmts_row (stmt_then (expression a) r)) ∷ rest)
     → Owns h p (stmt_at results ∷ loose)
     ((expr_at (get_or h.stmts results blank_stmt).exprs, expr_row a end) ∷ (expr_at i, optional_row v end)
     ∷ (stmt_at (get_or h.stmts results blank_stmt).next, stmts_row r) ∷ (expr_at values, w) ∷ (stmt_at inner, y) ∷ rest)
@@ -122,7 +125,9 @@ pub expression_goes : (q : Bool) (v : OptionalExpr) (a : Expr) (r : Stmts) → q
 expression_goes q v a r e = rw e (ap (λ (i : Init). head_with i r) (joined_init_there a v))
 
 -- no expression statement is the newest result
-no_expression_there : {h : Heap} {p : Pools} {loose : List Place} {rest : List Root} {i values inner results : ℕ} (q : Bool) (v : OptionalExpr) (w y : Row) (r : Stmts) → q ≡ true
+no_expression_there : {h : Heap} {p : Pools} {loose : List Place} {rest : List Root} {i values inner results : ℕ} (q : Bool) (v : OptionalExpr) (w y : Row)
+    (r : Stmts)
+    → q ≡ true
     → is_expression_kind (get_or h.stmts results blank_stmt).kind ≡ false
     → Owns h p loose ((expr_at i, optional_row v end) ∷ (expr_at values, w) ∷ (stmt_at inner, y) ∷ (stmt_at results, stmts_row r) ∷ rest)
     → head_from q v r ≡ declaration_into_head v (last_declaration? r)
@@ -144,7 +149,8 @@ module _ {h h' : Heap} {p p' : Pools} {loose : List Place} {rest : List Root} {i
       let x = expression_newest r (sym (newest_told is_expression_kind refl h results r o.short o.held.1.1.1.0) ∙ n) in
       as_head (ap (λ (s : Stmts). head_from q v s) x.2 ∙ expression_goes q v x.0 x.1 e)
       (g x.0 x.1
-      (subst (λ (s : Stmts). Owns h p loose ((expr_at i, optional_row v end) ∷ (expr_at values, w) ∷ (stmt_at inner, y) ∷ (stmt_at results, stmts_row s) ∷ rest)) x.2 o))
+      (subst (λ (s : Stmts). Owns h p loose ((expr_at i, optional_row v end) ∷ (expr_at values, w) ∷ (stmt_at inner, y)
+      ∷ (stmt_at results, stmts_row s) ∷ rest)) x.2 o))
 
   -- it is none, and there is no init
   pub head_by_declaration : (q : Bool) (v : OptionalExpr) (w y : Row) (r : Stmts) → q ≡ true
@@ -166,17 +172,6 @@ module _ {h h' : Heap} {p p' : Pools} {loose : List Place} {rest : List Root} {i
   head_by_init q absent w y r e n ne g o = absurd (ne o.held.0)
   head_by_init q (present x) w y r e n ne g o = as_head (no_expression_there q (present x) w y r e n o) (g o)
 
--- the first expression off a row
-abbrev pub ended : List ExprRecord → ℕ → ExprRecord
-ended exprs i = record { kind = (get_or exprs i blank_expr).kind; first = (get_or exprs i blank_expr).first; next = nowhere }
-
-pub first_cut : {exprs : List ExprRecord} {ss : List StmtRecord} {ds : List DeclRecord} {p : Pools} {loose : List Place} {rest : List Root} {i : ℕ} (e : Expr) (w : Row)
-    → Owns (tables exprs ss ds) p loose ((expr_at i, expr_row e w) ∷ rest)
-    → Moved (tables exprs ss ds) (tables (set exprs i (ended exprs i)) ss ds) p loose
-    ((expr_at i, expr_row e end) ∷ (expr_at (get_or exprs i blank_expr).next, w) ∷ rest)
-first_cut {exprs = exprs} {i = i} e w o =
-    close_expr e end (ended exprs i) (kind_of_expr e w o) (pick 1 (end_in (expr_at nowhere) refl (open_expr e w o)))
-
 -- the leading assignments of an init go into the declaration before it, and what is left is worked with the results
 pub leading_done : {h h₁ h₂ h₃ : Heap} {p p₂ p₃ : Pools} {loose : List Place} {rest : List Root} {values inner results behind target₂ results₂ : ℕ} {f : Front}
     (q : Bool) (e : Expr) (w y : Row) (r : Stmts) → 1 + (weight_stmts r).exprs ≤ p.exprs.count → Equals (lengths h₁) (lengths h₂)
@@ -192,7 +187,11 @@ pub leading_done : {h h₁ h₂ h₃ : Heap} {p p₂ p₃ : Pools} {loose : List
     → Owns h p loose ((expr_at values, expr_row e w) ∷ (stmt_at inner, y) ∷ (stmt_at results, stmts_row r) ∷ rest)
     → HasHead h h₃ p₃ loose rest f (worked_head q e r) w y
 leading_done {h} {h₁} {h₂} {h₃} {p} {p₂} {p₃} {loose} {rest} {values} {inner} {results} {behind} {target₂} {results₂} {f} q e w y r n l cuts leads heads o =
-    record { init = x.init; moved = then_move (then_move m₁ (λ k. leads loose ((expr_at behind, w) ∷ (stmt_at inner, y) ∷ rest) (arrange (0 ∷ 2 ∷ []) k))) (λ k. x.moved) }
+    record {
+      init = x.init;
+      moved = then_move (then_move m₁ (λ k. leads loose ((expr_at behind, w) ∷ (stmt_at inner, y) ∷ rest) (arrange (0 ∷ 2 ∷ []) k)))
+          (λ k. x.moved);
+    }
   where
     m₁ : Moved h h₁ p loose ((expr_at values, expr_row e end) ∷ (expr_at behind, w) ∷ (stmt_at inner, y) ∷ (stmt_at results, stmts_row r) ∷ rest)
     m₁ = cuts loose ((stmt_at inner, y) ∷ (stmt_at results, stmts_row r) ∷ rest) o
@@ -227,7 +226,8 @@ vars_opened k xs ys y z own last e₁ e₂ o =
 abbrev pub renamed : StmtRecord → ℕ → StmtRecord
 renamed x names = record { kind = x.kind; exprs = x.exprs; stmts = x.stmts; decls = names; next = x.next }
 
-pub var_closed : {es : List ExprRecord} {stmts stmts₁ : List StmtRecord} {ds : List DeclRecord} {p : Pools} {loose : List Place} {rest : List Root} {inner names : ℕ}
+pub var_closed : {es : List ExprRecord} {stmts stmts₁ : List StmtRecord} {ds : List DeclRecord} {p : Pools} {loose : List Place} {rest : List Root}
+    {inner names : ℕ}
     (k : DeclarationKind) (xs : Declarators) (y : Row) (own : StmtRecord) → own.kind ≡ kind.Declaration k → stmts₁ ≡ set stmts inner (renamed own names)
     → Owns (tables es stmts ds) p (stmt_at inner ∷ loose)
     ((decl_at names, declarators_row xs) ∷ (expr_at own.exprs, end) ∷ (stmt_at own.stmts, end) ∷ (stmt_at own.next, y) ∷ rest)
@@ -279,7 +279,8 @@ module _ {h h' : Heap} {p p' : Pools} {loose : List Place} {rest : List Root} {v
         moved = regroup
             (f v.0 (stmts_row v.1) loose ((expr_at values, w) ∷ rest)
             (arrange (1 ∷ 1 ∷ [])
-            (subst (λ (s : Stmts). Owns h p loose ((expr_at values, w) ∷ (stmt_at inner, stmt_row (declaration Var xs) y) ∷ (stmt_at results, stmts_row s) ∷ rest)) v.2 o)))
+            (subst (λ (s : Stmts). Owns h p loose ((expr_at values, w) ∷ (stmt_at inner, stmt_row (declaration Var xs) y)
+            ∷ (stmt_at results, stmts_row s) ∷ rest)) v.2 o)))
             (λ o₁. pick 2 o₁);
       })
   vars_go true Let xs w y r n f o = no_way n
@@ -339,7 +340,8 @@ for_record f head = record {
   next = f.results;
 }
 
-pub for_closed : {h : Heap} {es : List ExprRecord} {stmts : List StmtRecord} {ds : List DeclRecord} {p : Pools} {loose : List Place} {rest : List Root} {at : ℕ}
+pub for_closed : {h : Heap} {es : List ExprRecord} {stmts : List StmtRecord} {ds : List DeclRecord} {p : Pools} {loose : List Place} {rest : List Root}
+    {at : ℕ}
     (f : Front) (hd : ForHead) (head : WorkedHead) (i : Init) (t u : OptionalExpr) (b : Stmt) → hd ≡ head_of i t u
     → HasHead h (tables es stmts ds) p (stmt_at at ∷ loose) rest f head (optional_row t (optional_row u end)) (stmt_row b end)
     → Moved h (tables es (set stmts at (for_record f hd)) ds) p loose ((stmt_at at, stmts_row (stmt_then (for head.init t u b) head.results)) ∷ rest)

@@ -105,7 +105,8 @@ no_var_newest (stmt_then (switch d cs) r) n = refl
 no_var_newest (stmt_then break r) n = refl
 no_var_newest (stmt_then continue r) n = refl
 
-pub no_var_before : (names : Declarators) (r : Stmts) → newest is_var_kind r ≡ false → var_into_head names (last_declaration? r) ≡ head_with (init_declaration Var names) r
+pub no_var_before : (names : Declarators) (r : Stmts) → newest is_var_kind r ≡ false
+    → var_into_head names (last_declaration? r) ≡ head_with (init_declaration Var names) r
 no_var_before names no_stmts n = refl
 no_var_before names (stmt_then empty r) n = refl
 no_var_before names (stmt_then (expression e) r) n = refl

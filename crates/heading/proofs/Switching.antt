@@ -1,5 +1,5 @@
 -- What is owned after a `switch` was worked.
-use Rattle.std.proofs.Common.{◌≡◌, ℕ, Bool, true, false, cond, not as negated, ◌&&◌, T, ◌≢◌, List, [], ◌∷◌, get_or, set, sym, refl, subst}
+use Rattle.std.proofs.Common.{◌≡◌, ℕ, Bool, true, false, not as negated, ◌&&◌, T, ◌≢◌, List, [], ◌∷◌, get_or, set, sym, refl, subst}
 use Rattle.pool.specs.Chain.{nowhere}
 use Rattle.script.specs.declared.StatementKind.TheVariants as kind
 use Rattle.script.specs.Tree.{Cases, Expr, Stmt, Stmts, absent, case_then, no_alternate, no_cases, no_stmts, present, stmt_then, strict_equality}
@@ -76,7 +76,8 @@ case_becomes {es} {stmts} {ds} {p} {loose} {rest} {at} {list} xs e o =
 abbrev pub if_record : ℕ → ℕ → ℕ → StmtRecord
 if_record test branch next = record { kind = kind.If; exprs = test; stmts = branch; decls = nowhere; next = next }
 
-pub if_closed : {es : List ExprRecord} {stmts : List StmtRecord} {ds : List DeclRecord} {p : Pools} {loose : List Place} {rest : List Root} {at test branch next : ℕ}
+pub if_closed : {es : List ExprRecord} {stmts : List StmtRecord} {ds : List DeclRecord} {p : Pools} {loose : List Place} {rest : List Root}
+    {at test branch next : ℕ}
     (t : Expr) (x : Stmt) (w : Row)
     → Owns (tables es stmts ds) p (stmt_at at ∷ loose) ((stmt_at branch, stmt_row x end) ∷ (expr_at test, expr_row t end) ∷ (stmt_at next, w) ∷ rest)
     → Moved (tables es stmts ds) (tables es (set stmts at (if_record test branch next)) ds) p loose
@@ -97,10 +98,6 @@ switch_closed {discriminant = discriminant} {cases = cases} {next = next} d cs w
     close_stmt (switch d cs) w (switch_record discriminant cases next) refl (arrange (1 ∷ 1 ∷ 0 ∷ []) (end_in (decl_at nowhere) refl o))
 
 -- the rule on cases that are not inlined, on a test and on a default
-
-broken : {A : Type 0} (b : Bool) (x y : A) → negated b ≡ false → cond b x y ≡ x
-broken true x y e = refl
-broken false x y e = no_way (sym e)
 
 test_stays : (q : Bool) (d e : Expr) (ss r : Stmts) (b : Bool) (t : T b → T (is_literal e)) → (negated (has_nested_break_in_list ss) && b) ≡ false
     → inline_switch_case q d (one_test? b e t ss) r ≡ stmt_then (switch d (case_then (present e) ss no_cases)) r

@@ -65,10 +65,13 @@ head_with i r = record { init = i; results = r }
 abbrev pub worked_head : Bool → Expr → Stmts → WorkedHead
 worked_head q e r = let w : Worked = merge_leading_assignments_to_declaration true e r in head_from q w.target w.results
 
+-- what stands at the places of a front
+abbrev pub rows_of : Front → Row → Row → Stmts → List Root
+rows_of f w y r = (expr_at f.values, w) ∷ (stmt_at f.inner, y) ∷ (stmt_at f.results, stmts_row r) ∷ []
+
 -- the rows of a head, before the others of the `for`, and the results before it
 abbrev pub head_rows : Front → WorkedHead → Row → Row → List Root
-head_rows f head w y =
-    (expr_at f.values, init_exprs head.init w) ∷ (stmt_at f.inner, init_stmts head.init y) ∷ (stmt_at f.results, stmts_row head.results) ∷ []
+head_rows f head w y = rows_of f (init_exprs head.init w) (init_stmts head.init y) head.results
 
 -- the head is there, and it has this init
 pub record HasHead (h h' : Heap) (p' : Pools) (loose : List Place) (rest : List Root) (f : Front) (head : WorkedHead) (w y : Row) : Type 0 where

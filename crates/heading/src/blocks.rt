@@ -1,4 +1,5 @@
 // The rule on blocks: a list of statements is opened into the results where none of them declares a name of the block's own.
+// A routine is lent the tables that it works on and no others: those are known to stay with no clause.
 ghost use Rattle.std.specs.Prelude.{not as negated, List, [], ◌∷◌};
 ghost use Rattle.script.specs.Tree.{Stmts};
 ghost use Rattle.records.specs.declared.record.DeclRecord.{DeclRecord as DeclEntry};
@@ -11,47 +12,18 @@ ghost use Rattle.rules.specs.Statements.{any_cares_about_scope, handle_block, pu
 ghost use Rattle.moves.specs.Moved.{Turns};
 ghost use Rattle.moves.specs.Read.{TellsStmts};
 
-use moves::{give, set, stmt_at};
+use moves::{give, push_all, set};
 use pool::NOWHERE;
 use predicates::any_cares_about_scope;
 use records::{Pools, StmtRecord};
 use script::StatementKind;
 
 // The results after a block, and whether its statements are among them now.
+// Two variants that each hold the results would be no plainer: every caller goes on with them.
 #[derive(Clone, Copy)]
 pub struct Opened {
     pub results: u32,
     pub opened: bool,
-}
-
-// Puts the statements of a row one after the other onto the results.
-pub fn push_all(stmts: &mut [StmtRecord], list: u32, results: u32) -> u32
-    ensures { (es : List ExprEntry) (ds : List DeclEntry) (p : Spare) (xs ys : Stmts) →
-        Turns (tables es stmts.old ds) p (tables es stmts.new ds) p
-        [] ((stmt_at list, stmts_row xs) ∷ (stmt_at results, stmts_row ys) ∷ []) ((stmt_at result, stmts_row (push_all xs ys)) ∷ []) }
-{
-    let mut from = list;
-    let mut onto = results;
-    for _i in 0..stmts.len() {
-        if from == NOWHERE {
-            return onto;
-        }
-        let stmt = stmt_at(stmts, from);
-        set(
-            stmts,
-            from,
-            StmtRecord {
-                kind: stmt.kind,
-                exprs: stmt.exprs,
-                stmts: stmt.stmts,
-                decls: stmt.decls,
-                next: onto,
-            },
-        );
-        onto = from;
-        from = stmt.next;
-    }
-    onto
 }
 
 // Opens a block into the results; one that declares names of its own stays as it is.

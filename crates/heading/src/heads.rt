@@ -1,4 +1,5 @@
 // The rule on `for`: its head takes in the newest results.
+// A routine is lent the tables that it works on and no others: those are known to stay with no clause.
 ghost use Rattle.std.specs.Prelude.{◌≡◌, ◌+◌, ◌≤◌, ◌&&◌, List, [], ◌∷◌, slice_index_or};
 ghost use Rattle.script.specs.declared.DeclarationKind.{DeclarationKind as Declaring};
 ghost use Rattle.script.specs.Tree.{Declarators, Expr, Init, OptionalExpr, Stmt, Stmts, absent, declaration, expression, for, init_expression, stmt_then};
@@ -15,12 +16,13 @@ ghost use Rattle.rules.specs.Declarations.{append_declarators};
 ghost use Rattle.rules.specs.For.{declaration_into_head, for_head, handle_for_statement, head_from, head_from_declaration, init_from};
 ghost use Rattle.rules.specs.Merging.{last_declaration?, merge_leading_assignments_to_declaration};
 ghost use Rattle.joining.specs.Needs.{EnoughFor};
+ghost use Rattle.moves.specs.Lent.{Makes, SameSlices, heap};
 ghost use Rattle.moves.specs.Moved.{Turns};
-ghost use Rattle.heading.specs.Fronts.{TurnsToHead, head_with, is_expression_kind, is_var_kind, joined_init, worked_head};
+ghost use Rattle.heading.specs.Fronts.{TurnsToHead, head_with, is_expression_kind, is_var_kind, joined_init, rows_of, worked_head};
 
 use joining::join_sequence;
-use merging::{append_names, merge_leading_assignments_to_declaration};
-use moves::{expr_at, give, link_expr, set, stmt_at};
+use merging::merge_leading_assignments_to_declaration;
+use moves::{Tables, detach, give, join_rows, link, record_at, relink, set};
 use pool::NOWHERE;
 use records::{DeclRecord, ExprRecord, Pools, StmtRecord};
 use script::{DeclarationKind, ForHead, ForInit, StatementKind};
@@ -38,82 +40,56 @@ pub struct Front {
 fn is_expression(stmts: &[StmtRecord], at: u32) -> bool
     ensures { result ≡ is_expression_kind (slice_index_or stmts.now at blank_stmt).kind }
 {
-    match stmt_at(stmts, at).kind {
-        StatementKind::Expression => true,
-        _ => false,
-    }
+    record_at(stmts, at).kind == StatementKind::Expression
 }
 
 // Whether a `var` stands at a place.
 fn is_var(stmts: &[StmtRecord], at: u32) -> bool
     ensures { result ≡ is_var_kind (slice_index_or stmts.now at blank_stmt).kind }
 {
-    match stmt_at(stmts, at).kind {
-        StatementKind::Declaration(kind) => match kind {
-            DeclarationKind::Var => true,
-            DeclarationKind::Let => false,
-            DeclarationKind::Const => false,
-        },
-        _ => false,
-    }
+    record_at(stmts, at).kind == StatementKind::Declaration(DeclarationKind::Var)
 }
 
 // An expression or none as the init.
-fn put_init(exprs: &mut [ExprRecord], init: u32, values: u32, inner: u32, results: u32) -> Front
+fn put_init(exprs: &mut [ExprRecord], expr: u32, front: Front) -> Front
     ensures { (ss : List StmtEntry) (ds : List DeclEntry) (p : Spare) (v : OptionalExpr) (w y : Row) (r : Stmts) →
         TurnsToHead (tables exprs.old ss ds) p (tables exprs.new ss ds) p
-        ((expr_at init, optional_row v end) ∷ (expr_at values, w) ∷ (stmt_at inner, y) ∷ (stmt_at results, stmts_row r) ∷ [])
+        ((expr_at expr, optional_row v end) ∷ rows_of front w y r)
         result (head_with (init_from v) r) w y }
 {
-    if init == NOWHERE {
+    if expr == NOWHERE {
         return Front {
             init: ForInit::Absent,
-            values,
-            inner,
-            results,
+            ..front
         };
     }
-    link_expr(exprs, init, values);
+    link(exprs, expr, front.values);
     Front {
         init: ForInit::Expression,
-        values: init,
-        inner,
-        results,
+        values: expr,
+        ..front
     }
 }
 
 // A `var` before a `for` without an init becomes the init.
-fn take_var(stmts: &mut [StmtRecord], values: u32, inner: u32, results: u32) -> Front
+fn take_var(stmts: &mut [StmtRecord], front: Front) -> Front
     ensures { (es : List ExprEntry) (ds : List DeclEntry) (p : Spare) (w y : Row) (r : Stmts) →
         TurnsToHead (tables es stmts.old ds) p (tables es stmts.new ds) p
-        ((expr_at values, w) ∷ (stmt_at inner, y) ∷ (stmt_at results, stmts_row r) ∷ [])
+        (rows_of front w y r)
         result (declaration_into_head absent (last_declaration? r)) w y }
 {
-    if !is_var(stmts, results) {
+    if !is_var(stmts, front.results) {
         return Front {
             init: ForInit::Absent,
-            values,
-            inner,
-            results,
+            ..front
         };
     }
-    let last = stmt_at(stmts, results);
-    set(
-        stmts,
-        results,
-        StmtRecord {
-            kind: last.kind,
-            exprs: last.exprs,
-            stmts: last.stmts,
-            decls: last.decls,
-            next: inner,
-        },
-    );
+    let behind = relink(stmts, front.results, front.inner);
     Front {
         init: ForInit::Declaration,
-        values,
-        inner: results,
-        results: last.next,
+        inner: front.results,
+        results: behind,
+        ..front
     }
 }
 
@@ -134,25 +110,23 @@ fn take_expression(
     exprs: &mut [ExprRecord],
     stmts: &mut [StmtRecord],
     pools: &mut Pools,
-    init: u32,
-    values: u32,
-    inner: u32,
-    results: u32,
+    expr: u32,
+    front: Front,
 ) -> Front
     ensures { (ds : List DeclEntry) (v : OptionalExpr) (w y : Row) (a : Expr) (r : Stmts) → 1 ≤ pools.old.exprs.count →
         TurnsToHead (tables exprs.old stmts.old ds) pools.old
         (tables exprs.new stmts.new ds) pools.new
-        ((expr_at init, optional_row v end) ∷ (expr_at values, w) ∷ (stmt_at inner, y) ∷ (stmt_at results, stmts_row (stmt_then (expression a) r)) ∷ [])
+        ((expr_at expr, optional_row v end) ∷ rows_of front w y (stmt_then (expression a) r))
         result (head_with (init_expression (joined_init a v)) r) w y }
 {
-    let last = stmt_at(stmts, results);
-    give(&mut pools.stmts, stmts, results);
-    let joined = join_init(exprs, pools, last.exprs, init);
-    link_expr(exprs, joined, values);
+    let last = record_at(stmts, front.results);
+    give(&mut pools.stmts, stmts, front.results);
+    let joined = join_init(exprs, pools, last.exprs, expr);
+    link(exprs, joined, front.values);
     Front {
         init: ForInit::Expression,
         values: joined,
-        inner,
+        inner: front.inner,
         results: last.next,
     }
 }
@@ -163,78 +137,58 @@ fn head_from_expression(
     exprs: &mut [ExprRecord],
     stmts: &mut [StmtRecord],
     pools: &mut Pools,
-    init: u32,
-    values: u32,
-    inner: u32,
-    results: u32,
+    expr: u32,
+    front: Front,
 ) -> Front
     ensures { (ds : List DeclEntry) (v : OptionalExpr) (w y : Row) (r : Stmts) → 1 ≤ pools.old.exprs.count →
         TurnsToHead (tables exprs.old stmts.old ds) pools.old
         (tables exprs.new stmts.new ds) pools.new
-        ((expr_at init, optional_row v end) ∷ (expr_at values, w) ∷ (stmt_at inner, y) ∷ (stmt_at results, stmts_row r) ∷ [])
+        ((expr_at expr, optional_row v end) ∷ rows_of front w y r)
         result (head_from sequences v r) w y }
 {
     if !sequences {
-        return put_init(exprs, init, values, inner, results);
+        return put_init(exprs, expr, front);
     }
-    if is_expression(stmts, results) {
-        return take_expression(exprs, stmts, pools, init, values, inner, results);
+    if is_expression(stmts, front.results) {
+        return take_expression(exprs, stmts, pools, expr, front);
     }
-    if init == NOWHERE {
-        return take_var(stmts, values, inner, results);
+    if expr == NOWHERE {
+        return take_var(stmts, front);
     }
-    put_init(exprs, init, values, inner, results)
-}
-
-// Takes the first expression off a row, and tells what was behind it.
-fn cut_first(exprs: &mut [ExprRecord], at: u32) -> u32
-    ensures { (ss : List StmtEntry) (ds : List DeclEntry) (p : Spare) (e : Expr) (w : Row) →
-        Turns (tables exprs.old ss ds) p (tables exprs.new ss ds) p
-        [] ((expr_at at, expr_row e w) ∷ []) ((expr_at at, expr_row e end) ∷ (expr_at result, w) ∷ []) }
-{
-    let first = expr_at(exprs, at);
-    set(
-        exprs,
-        at,
-        ExprRecord {
-            kind: first.kind,
-            first: first.first,
-            next: NOWHERE,
-        },
-    );
-    first.next
+    put_init(exprs, expr, front)
 }
 
 // The head of a `for` whose init is an expression: its leading assignments go into the declaration before it.
-fn head_after_leading(
-    sequences: bool,
-    exprs: &mut [ExprRecord],
-    stmts: &mut [StmtRecord],
-    decls: &mut [DeclRecord],
-    pools: &mut Pools,
-    values: u32,
-    inner: u32,
-    results: u32,
-) -> Front
-    ensures { (e : Expr) (w y : Row) (r : Stmts) → 1 + (weight_stmts r).exprs ≤ pools.old.exprs.count →
-        TurnsToHead (tables exprs.old stmts.old decls.old) pools.old
-        (tables exprs.new stmts.new decls.new) pools.new
-        ((expr_at values, expr_row e w) ∷ (stmt_at inner, y) ∷ (stmt_at results, stmts_row r) ∷ [])
+fn head_after_leading(sequences: bool, tables: &mut Tables, front: Front) -> Front
+    ensures lent { SameSlices tables.old tables.new }
+    ensures makes { (e : Expr) (w y : Row) (r : Stmts) → 1 + (weight_stmts r).exprs ≤ tables.old.pools.exprs.count →
+        TurnsToHead (heap tables.old) tables.old.pools (heap tables.new) tables.new.pools
+        (rows_of front (expr_row e w) y r)
         result (worked_head sequences e r) w y }
 {
-    let behind = cut_first(exprs, values);
+    let behind = detach(tables.exprs, front.values);
+    let stmts = &mut *tables.stmts;
     let worked = merge_leading_assignments_to_declaration(
-        true, exprs, stmts, decls, pools, values, results,
+        true,
+        tables.exprs,
+        stmts,
+        tables.decls,
+        &mut tables.pools,
+        front.values,
+        front.results,
     );
+    let left = Front {
+        values: behind,
+        results: worked.results,
+        ..front
+    };
     head_from_expression(
         sequences,
-        exprs,
-        stmts,
-        pools,
+        tables.exprs,
+        tables.stmts,
+        &mut tables.pools,
         worked.target,
-        behind,
-        inner,
-        worked.results,
+        left,
     )
 }
 
@@ -243,13 +197,7 @@ fn can_join_vars(sequences: bool, stmts: &[StmtRecord], inner: u32, results: u32
     ensures { result ≡ (sequences && (is_var_kind (slice_index_or stmts.now inner blank_stmt).kind
         && is_var_kind (slice_index_or stmts.now results blank_stmt).kind)) }
 {
-    if !sequences {
-        return false;
-    }
-    if !is_var(stmts, inner) {
-        return false;
-    }
-    is_var(stmts, results)
+    sequences && is_var(stmts, inner) && is_var(stmts, results)
 }
 
 // Puts the names of a declaration among the results before those of a declaration in a head, and tells what was behind it.
@@ -265,18 +213,15 @@ fn join_vars(
         [] ((stmt_at inner, stmt_row (declaration k ys) y) ∷ (stmt_at results, stmt_row (declaration k xs) z) ∷ [])
         ((stmt_at inner, stmt_row (declaration k (append_declarators xs ys)) y) ∷ (stmt_at result, z) ∷ []) }
 {
-    let own = stmt_at(stmts, inner);
-    let last = stmt_at(stmts, results);
-    let names = append_names(decls, last.decls, own.decls);
+    let own = record_at(stmts, inner);
+    let last = record_at(stmts, results);
+    let names = join_rows(decls, last.decls, own.decls);
     set(
         stmts,
         inner,
         StmtRecord {
-            kind: own.kind,
-            exprs: own.exprs,
-            stmts: own.stmts,
             decls: names,
-            next: own.next,
+            ..own
         },
     );
     give(&mut pools.stmts, stmts, results);
@@ -289,60 +234,49 @@ fn head_from_declaration(
     stmts: &mut [StmtRecord],
     decls: &mut [DeclRecord],
     pools: &mut Pools,
-    values: u32,
-    inner: u32,
-    results: u32,
+    front: Front,
 ) -> Front
     ensures { (es : List ExprEntry) (k : Declaring) (xs : Declarators) (w y : Row) (r : Stmts) →
         TurnsToHead (tables es stmts.old decls.old) pools.old
         (tables es stmts.new decls.new) pools.new
-        ((expr_at values, w) ∷ (stmt_at inner, stmt_row (declaration k xs) y) ∷ (stmt_at results, stmts_row r) ∷ [])
+        (rows_of front w (stmt_row (declaration k xs) y) r)
         result (head_from_declaration sequences k xs r) w y }
 {
-    if !can_join_vars(sequences, stmts, inner, results) {
-        return Front {
-            init: ForInit::Declaration,
-            values,
-            inner,
-            results,
-        };
+    let mut results = front.results;
+    if can_join_vars(sequences, stmts, front.inner, results) {
+        results = join_vars(stmts, decls, pools, front.inner, results);
     }
-    let behind = join_vars(stmts, decls, pools, inner, results);
     Front {
         init: ForInit::Declaration,
-        values,
-        inner,
-        results: behind,
+        results,
+        ..front
     }
 }
 
 // The head of a `for` after the results before it.
-fn work_head(
-    sequences: bool,
-    exprs: &mut [ExprRecord],
-    stmts: &mut [StmtRecord],
-    decls: &mut [DeclRecord],
-    pools: &mut Pools,
-    init: ForInit,
-    values: u32,
-    inner: u32,
-    results: u32,
-) -> Front
-    ensures { (i : Init) (w y : Row) (r : Stmts) → init ≡ init_kind i → 1 + (weight_stmts r).exprs ≤ pools.old.exprs.count →
-        TurnsToHead (tables exprs.old stmts.old decls.old) pools.old
-        (tables exprs.new stmts.new decls.new) pools.new
-        ((expr_at values, init_exprs i w) ∷ (stmt_at inner, init_stmts i y) ∷ (stmt_at results, stmts_row r) ∷ [])
+fn work_head(sequences: bool, tables: &mut Tables, front: Front) -> Front
+    ensures lent { SameSlices tables.old tables.new }
+    ensures makes { (i : Init) (w y : Row) (r : Stmts) → front.init ≡ init_kind i → 1 + (weight_stmts r).exprs ≤ tables.old.pools.exprs.count →
+        TurnsToHead (heap tables.old) tables.old.pools (heap tables.new) tables.new.pools
+        (rows_of front (init_exprs i w) (init_stmts i y) r)
         result (for_head sequences i r) w y }
 {
-    match init {
+    match front.init {
         ForInit::Absent => head_from_expression(
-            sequences, exprs, stmts, pools, NOWHERE, values, inner, results,
+            sequences,
+            tables.exprs,
+            tables.stmts,
+            &mut tables.pools,
+            NOWHERE,
+            front,
         ),
-        ForInit::Expression => head_after_leading(
-            sequences, exprs, stmts, decls, pools, values, inner, results,
-        ),
+        ForInit::Expression => head_after_leading(sequences, tables, front),
         ForInit::Declaration => head_from_declaration(
-            sequences, stmts, decls, pools, values, inner, results,
+            sequences,
+            tables.stmts,
+            tables.decls,
+            &mut tables.pools,
+            front,
         ),
     }
 }
@@ -350,40 +284,41 @@ fn work_head(
 // A `for` after the results before it.
 pub fn handle_for_statement(
     sequences: bool,
-    exprs: &mut [ExprRecord],
-    stmts: &mut [StmtRecord],
-    decls: &mut [DeclRecord],
-    pools: &mut Pools,
+    tables: &mut Tables,
     at: u32,
     head: ForHead,
     values: u32,
     inner: u32,
     results: u32,
 ) -> u32
-    ensures { (i : Init) (t u : OptionalExpr) (b : Stmt) (r : Stmts) → head ≡ head_of i t u → EnoughFor (for i t u b) r pools.old →
-        Turns (tables exprs.old stmts.old decls.old) pools.old
-        (tables exprs.new stmts.new decls.new) pools.new
+    ensures lent { SameSlices tables.old tables.new }
+    ensures makes { (i : Init) (t u : OptionalExpr) (b : Stmt) (r : Stmts) → head ≡ head_of i t u →
+        EnoughFor (for i t u b) r tables.old.pools →
+        Makes tables.old tables.new
         (stmt_at at ∷ []) ((expr_at values, init_exprs i (optional_row t (optional_row u end))) ∷ (stmt_at inner, init_stmts i (stmt_row b end))
         ∷ (stmt_at results, stmts_row r) ∷ [])
         ((stmt_at result, stmts_row (handle_for_statement sequences i t u b r)) ∷ []) }
 {
-    let front = work_head(
-        sequences, exprs, stmts, decls, pools, head.init, values, inner, results,
-    );
+    let front = Front {
+        init: head.init,
+        values,
+        inner,
+        results,
+    };
+    let worked = work_head(sequences, tables, front);
     let kind = StatementKind::For(ForHead {
-        init: front.init,
-        test: head.test,
-        update: head.update,
+        init: worked.init,
+        ..head
     });
     set(
-        stmts,
+        tables.stmts,
         at,
         StmtRecord {
             kind,
-            exprs: front.values,
-            stmts: front.inner,
+            exprs: worked.values,
+            stmts: worked.inner,
             decls: NOWHERE,
-            next: front.results,
+            next: worked.results,
         },
     );
     at

@@ -1,4 +1,5 @@
 // The rule on `switch`: the discriminant takes in what stands before it, and a single case is inlined.
+// A routine is lent the tables that it works on and no others: those are known to stay with no clause.
 ghost use Rattle.std.specs.Prelude.{◌≡◌, ◌≤◌, List, [], ◌∷◌, length};
 ghost use Rattle.script.specs.Sound.{records_cases, records_optional};
 ghost use Rattle.script.specs.Tree.{Cases, Expr, OptionalExpr, Stmts, if_then, no_alternate, strict_equality, switch};
@@ -13,6 +14,7 @@ ghost use Rattle.records.specs.Rows.{At, Row, end};
 ghost use Rattle.rules.specs.Literals.{is_literal};
 ghost use Rattle.rules.specs.Switches.{case_block, handle_switch_statement, inline_switch_case, one_case?, push_discriminant};
 ghost use Rattle.joining.specs.Needs.{EnoughFor};
+ghost use Rattle.moves.specs.Lent.{Makes, SameSlices};
 ghost use Rattle.moves.specs.Moved.{Turns};
 ghost use Rattle.moves.specs.Read.{TellsStmts};
 ghost use Rattle.heading.specs.Cases.{inlines, is_one_block, literal_or_none};
@@ -22,10 +24,10 @@ use merging::{
     merge_last_expression_into_sequence, merge_leading_assignments_to_declaration,
     push_new_expression_stmt_to_result,
 };
-use moves::{drop_expr_row, give, link_stmt, set, stmt_at};
+use moves::{Tables, drop_expr_row, give, link, record_at, set};
 use pool::NOWHERE;
 use predicates::{has_nested_break, is_literal};
-use records::{DeclRecord, ExprRecord, Pools, StmtRecord};
+use records::{ExprRecord, Pools, StmtRecord};
 use script::StatementKind;
 
 // Whether a row of statements is exactly one block.
@@ -35,11 +37,8 @@ fn one_block(stmts: &[StmtRecord], list: u32) -> bool
     if list == NOWHERE {
         return false;
     }
-    let first = stmt_at(stmts, list);
-    match first.kind {
-        StatementKind::Block => first.next == NOWHERE,
-        _ => false,
-    }
+    let first = record_at(stmts, list);
+    first.kind == StatementKind::Block && first.next == NOWHERE
 }
 
 // The list of a case as one block: the case's record is that of the block, or is given back where the list is a block already.
@@ -107,7 +106,7 @@ fn inline_default(
     let kept = keep_discriminant(sequences, exprs, stmts, pools, discriminant, results);
     let block = block_of_case(stmts, pools, case, list);
     give(&mut pools.stmts, stmts, at);
-    link_stmt(stmts, block, kept);
+    link(stmts, block, kept);
     block
 }
 
@@ -150,10 +149,7 @@ fn is_literal_or_none(exprs: &[ExprRecord], test: u32) -> bool
         At (tables exprs.now ss ds) (expr_at test) (optional_row v end) → records_optional v ≤ length exprs.now →
         result ≡ literal_or_none v }
 {
-    if test == NOWHERE {
-        return true;
-    }
-    is_literal(exprs, test)
+    test == NOWHERE || is_literal(exprs, test)
 }
 
 // Whether these are one case, its test a literal or none, without a break that would leave the switch.
@@ -165,14 +161,10 @@ fn can_inline(exprs: &[ExprRecord], stmts: &[StmtRecord], cases: u32) -> bool
     if cases == NOWHERE {
         return false;
     }
-    let case = stmt_at(stmts, cases);
-    if case.next != NOWHERE {
-        return false;
-    }
-    if has_nested_break(stmts, case.stmts) {
-        return false;
-    }
-    is_literal_or_none(exprs, case.exprs)
+    let case = record_at(stmts, cases);
+    case.next == NOWHERE
+        && !has_nested_break(stmts, case.stmts)
+        && is_literal_or_none(exprs, case.exprs)
 }
 
 // Inlines one case; other cases stay as they are.
@@ -206,7 +198,7 @@ fn inline_case(
         );
         return at;
     }
-    let case = stmt_at(stmts, cases);
+    let case = record_at(stmts, cases);
     if case.exprs == NOWHERE {
         return inline_default(
             sequences,
@@ -237,43 +229,41 @@ fn inline_case(
 // A `switch` after the results before it.
 pub fn handle_switch_statement(
     sequences: bool,
-    exprs: &mut [ExprRecord],
-    stmts: &mut [StmtRecord],
-    decls: &mut [DeclRecord],
-    pools: &mut Pools,
+    tables: &mut Tables,
     at: u32,
     discriminant: u32,
     cases: u32,
     results: u32,
 ) -> u32
-    ensures { (d : Expr) (cs : Cases) (r : Stmts) → EnoughFor (switch d cs) r pools.old →
-        Turns (tables exprs.old stmts.old decls.old) pools.old
-        (tables exprs.new stmts.new decls.new) pools.new
+    ensures lent { SameSlices tables.old tables.new }
+    ensures makes { (d : Expr) (cs : Cases) (r : Stmts) → EnoughFor (switch d cs) r tables.old.pools →
+        Makes tables.old tables.new
         (stmt_at at ∷ []) ((expr_at discriminant, expr_row d end) ∷ (stmt_at cases, cases_row cs) ∷ (stmt_at results, stmts_row r) ∷ [])
         ((stmt_at result, stmts_row (handle_switch_statement sequences d cs r)) ∷ []) }
 {
     let merged = merge_last_expression_into_sequence(
         sequences,
-        exprs,
-        stmts,
-        pools,
+        tables.exprs,
+        tables.stmts,
+        &mut tables.pools,
         discriminant,
         results,
     );
+    let stmts = &mut *tables.stmts;
     let worked = merge_leading_assignments_to_declaration(
         false,
-        exprs,
+        tables.exprs,
         stmts,
-        decls,
-        pools,
+        tables.decls,
+        &mut tables.pools,
         merged.target,
         merged.results,
     );
     inline_case(
         sequences,
-        exprs,
-        stmts,
-        pools,
+        tables.exprs,
+        tables.stmts,
+        &mut tables.pools,
         at,
         worked.target,
         cases,

@@ -1,4 +1,3 @@
 pub mod Standing
 pub mod Walks
 pub mod Steps
-pub mod Generic

@@ -1,5 +1,6 @@
 -- An expression that stands at a place: the kind of its record, the row of its parts, and what follows it.
-use Rattle.std.proofs.Common.{◌≡◌, ℕ, suc, ◌<◌, ◌≤◌, length, get_or, refl, arith}
+use Rattle.std.proofs.Common.{◌≡◌, ℕ, zero, suc, ◌<◌, ◌≤◌, List, [], ◌∷◌, length, get_or, slice_get, Some, None, sym, refl, arith}
+use Rattle.std.proofs.lemmas.Option.{get_or_from_slice_get, none-some, slice_get_within}
 use Rattle.script.specs.declared.ExpressionKind.{ExpressionKind}
 use Rattle.script.specs.declared.ExpressionKind.TheVariants as expression
 use Rattle.script.specs.Tree.{Expr, number, word, name, assignment, call, sequence, conditional, logical, not, void, strict_equality}
@@ -10,6 +11,21 @@ use Rattle.records.specs.Heap.{Heap, expr_label, expr_at, blank_expr}
 use Rattle.records.specs.Rows.{Row, end, At}
 use Rattle.records.specs.Owned.{Short}
 use Rattle.records.specs.Embedding.{expr_row, exprs_row}
+
+-- the record that is read at a place, and a place where none is
+abbrev pub Found : List ExprRecord → ℕ → ExprRecord → Type 0
+Found exprs at x = Some x ≡ slice_get exprs at
+
+pub found_within : (exprs : List ExprRecord) (at : ℕ) (x : ExprRecord) → Found exprs at x → at < length exprs
+found_within exprs at x f = slice_get_within exprs at x (sym f)
+
+pub found_there : (exprs : List ExprRecord) (at : ℕ) (x : ExprRecord) → Found exprs at x → get_or exprs at blank_expr ≡ x
+found_there exprs at x f = get_or_from_slice_get exprs at x blank_expr (sym f)
+
+pub none_found : (exprs : List ExprRecord) (at : ℕ) → None ≡ slice_get exprs at → length exprs ≤ at
+none_found [] at n = omega arith
+none_found (x ∷ xs) zero n = absurd (none-some x n)
+none_found (x ∷ xs) (suc at) n = let l = none_found xs at n in omega arith
 
 abbrev pub kind_of : Expr → ExpressionKind
 kind_of (number b) = expression.Number b

@@ -1,5 +1,6 @@
 -- What a record at a place says of the expression there, and the steps to the last item and under a not.
-use Rattle.std.proofs.Common.{◌≡◌, ℕ, ◌+◌, ◌<◌, ◌≤◌, Bool, true, false, ◌&&◌, List, length, get_or, is_some, None, Option, sym, refl, ap, ◌∙◌, subst, arith}
+use Rattle.std.proofs.Common.{◌≡◌, ℕ, ◌+◌, ◌<◌, ◌≤◌, Bool, true, false, ◌&&◌, List, length, None, Option, Break, Continue, ControlFlow, slice_get}
+use Rattle.std.proofs.Common.{sym, refl, ap, ◌∙◌, subst, arith}
 use Rattle.script.specs.declared.ExpressionKind.{ExpressionKind}
 use Rattle.script.specs.declared.ExpressionKind.TheVariants as expression
 use Rattle.script.specs.Tree.{Expr, number, word, name, assignment, call, sequence, conditional, logical, not, void, strict_equality}
@@ -8,22 +9,15 @@ use Rattle.script.specs.Sound.{records_expr, records_exprs}
 use Rattle.records.specs.declared.record.ExprRecord.{ExprRecord}
 use Rattle.records.specs.declared.record.StmtRecord.{StmtRecord}
 use Rattle.records.specs.declared.record.DeclRecord.{DeclRecord}
-use Rattle.records.specs.Heap.{expr_at, blank_expr}
+use Rattle.records.specs.Heap.{expr_at}
 use Rattle.records.specs.Rows.{Row, end, At}
 use Rattle.records.specs.Owned.{Short}
 use Rattle.records.specs.Readable.{tables}
 use Rattle.records.specs.Embedding.{expr_row, exprs_row}
-use Rattle.hosts.specs.declared.reader.LastStep.{LastStep}
-use Rattle.hosts.specs.declared.reader.LastStep.TheVariants.{Last, On}
-use Rattle.hosts.specs.declared.reader.TruthStep.TheVariants.{Told, Turn}
-use Rattle.hosts.specs.Known.{bare_harmless, bare_truth, reader_harmless, all_harmless, reader_undefined, last_undefined, turned, false_if, reader_truth}
+use Rattle.hosts.specs.Known.{reader_harmless, all_harmless, reader_undefined, last_undefined, turned, false_if, reader_truth}
 use Rattle.hosts.specs.Asked.{AskedSo, Answers, AnswersRow}
-use Rattle.hosts.specs.Walked.{kind_truth, LastStepped, StepsLast, StepsTruth, turned_if}
-use Rattle.hosts.proofs.Standing.{kind_of, parts_of, stands, records_parts, ended, outside}
-
--- the record at a place
-abbrev pub Found : List ExprRecord → ℕ → ExprRecord → Type 0
-Found exprs at x = (at < length exprs) × (x ≡ get_or exprs at blank_expr)
+use Rattle.hosts.specs.Walked.{kind_truth, LastStepped, StepsLast, StepsTruth}
+use Rattle.hosts.proofs.Standing.{Found, found_within, found_there, none_found, kind_of, parts_of, stands, records_parts, ended, outside}
 
 -- its kind, its parts and what follows, where it is an expression's
 found_stands : (exprs : List ExprRecord) (at : ℕ) (x : ExprRecord) (ss : List StmtRecord) (ds : List DeclRecord) (e : Expr) (w : Row)
@@ -31,49 +25,16 @@ found_stands : (exprs : List ExprRecord) (at : ℕ) (x : ExprRecord) (ss : List 
     → (kind_of e ≡ x.kind) × At (tables exprs ss ds) (expr_at x.first) (exprs_row (parts_of e)) × At (tables exprs ss ds) (expr_at x.next) w
 found_stands exprs at x ss ds e w f a =
     let o = stands (tables exprs ss ds) at e w a in
-    let q = sym f.1 in (
+    let q = found_there exprs at x f in (
       sym o.kind ∙ ap (λ (y : ExprRecord). y.kind) q,
       subst (λ (y : ExprRecord). At (tables exprs ss ds) (expr_at y.first) (exprs_row (parts_of e))) q o.parts,
       subst (λ (y : ExprRecord). At (tables exprs ss ds) (expr_at y.next) w) q o.next,
     )
 
 -- no expression stands outside the table
-pub nothing_asked : (P : Expr → Type 0) (exprs : List ExprRecord) (at : ℕ) → length exprs ≤ at → AskedSo P exprs at
-nothing_asked P exprs at o ss ds e w s a n = let i = (stands (tables exprs ss ds) at e w a).within in absurd (omega arith)
-
--- literals
-
-bare_kind : (e : Expr) → bare_truth e ≡ kind_truth (kind_of e)
-bare_kind (number b) = refl
-bare_kind (word w) = refl
-bare_kind (name n) = refl
-bare_kind (assignment n e) = refl
-bare_kind (call n es) = refl
-bare_kind (sequence e es) = refl
-bare_kind (conditional t a b) = refl
-bare_kind (logical o a b) = refl
-bare_kind (not e) = refl
-bare_kind (void e) = refl
-bare_kind (strict_equality a b) = refl
-
-bare_known : (e : Expr) → is_some (bare_truth e) ≡ bare_harmless e
-bare_known (number b) = refl
-bare_known (word w) = refl
-bare_known (name n) = refl
-bare_known (assignment n e) = refl
-bare_known (call n es) = refl
-bare_known (sequence e es) = refl
-bare_known (conditional t a b) = refl
-bare_known (logical o a b) = refl
-bare_known (not e) = refl
-bare_known (void e) = refl
-bare_known (strict_equality a b) = refl
-
-pub literal_truth : (exprs : List ExprRecord) (at : ℕ) (x : ExprRecord) (r : Option Bool) → Found exprs at x → r ≡ kind_truth x.kind → Answers bare_truth exprs at r
-literal_truth exprs at x r f q ss ds e w s a n = q ∙ sym (bare_kind e ∙ ap kind_truth (found_stands exprs at x ss ds e w f a).0)
-
-pub literal_harmless : (exprs : List ExprRecord) (at : ℕ) (o : Option Bool) (r : Bool) → Answers bare_truth exprs at o → r ≡ is_some o → Answers bare_harmless exprs at r
-literal_harmless exprs at o r h q ss ds e w s a n = q ∙ ap (λ (t : Option Bool). is_some t) (h ss ds e w s a n) ∙ bare_known e
+pub nothing_asked : (P : Expr → Type 0) (exprs : List ExprRecord) (at : ℕ) → None ≡ slice_get exprs at → AskedSo P exprs at
+nothing_asked P exprs at o ss ds e w s a n =
+    let i = (stands (tables exprs ss ds) at e w a).within in let l = none_found exprs at o in absurd (omega arith)
 
 -- the last item
 
@@ -137,11 +98,11 @@ pub other_undefined : (exprs : List ExprRecord) (at : ℕ) (x : ExprRecord) → 
 other_undefined exprs at x f p q ss ds e w s a n =
     sym (undefined_found e x.kind x.kind (found_stands exprs at x ss ds e w f a).0 refl ∙ undefined_rest x.kind (last_undefined (parts_of e)) p q)
 
-pub step_outside : (exprs : List ExprRecord) (at : ℕ) → length exprs ≤ at → StepsLast exprs at (Last false)
-step_outside exprs at o ss ds es s a = sym (ap last_undefined (ended (tables exprs ss ds) at es a o))
+pub step_outside : (exprs : List ExprRecord) (at : ℕ) → None ≡ slice_get exprs at → StepsLast exprs at (Break false)
+step_outside exprs at o ss ds es s a = sym (ap last_undefined (ended (tables exprs ss ds) at es a (none_found exprs at o)))
 
-pub step_next : (exprs : List ExprRecord) (at : ℕ) (x : ExprRecord) → Found exprs at x → x.next < length exprs → StepsLast exprs at (On x.next)
-step_next exprs at x f i ss ds no_exprs s a = let o = outside (tables exprs ss ds) at s a in let l = f.0 in absurd (omega arith)
+pub step_next : (exprs : List ExprRecord) (at : ℕ) (x : ExprRecord) → Found exprs at x → x.next < length exprs → StepsLast exprs at (Continue x.next)
+step_next exprs at x f i ss ds no_exprs s a = let o = outside (tables exprs ss ds) at s a in let l = found_within exprs at x f in absurd (omega arith)
 step_next exprs at x f i ss ds (expr_then e no_exprs) s a =
     let o = outside (tables exprs ss ds) x.next s (found_stands exprs at x ss ds e end f a).2 in absurd (omega arith)
 step_next exprs at x f i ss ds (expr_then e (expr_then u us)) s a =
@@ -149,35 +110,38 @@ step_next exprs at x f i ss ds (expr_then e (expr_then u us)) s a =
     (expr_then u us, (found_stands exprs at x ss ds e (exprs_row (expr_then u us)) f a).2, omega arith, refl)
 
 -- the only item of a row, whose record has no next
-only : (exprs : List ExprRecord) (at : ℕ) (x : ExprRecord) (ss : List StmtRecord) (ds : List DeclRecord) (es : Exprs) → Found exprs at x → length exprs ≤ x.next
-    → Short (tables exprs ss ds) → At (tables exprs ss ds) (expr_at at) (exprs_row es) → (e : Expr) × (es ≡ expr_then e no_exprs)
-only exprs at x ss ds no_exprs f i s a = let o = outside (tables exprs ss ds) at s a in let l = f.0 in absurd (omega arith)
+only : (exprs : List ExprRecord) (at : ℕ) (x : ExprRecord) (ss : List StmtRecord) (ds : List DeclRecord) (es : Exprs)
+    → Found exprs at x → length exprs ≤ x.next → Short (tables exprs ss ds) → At (tables exprs ss ds) (expr_at at) (exprs_row es)
+    → (e : Expr) × (es ≡ expr_then e no_exprs)
+only exprs at x ss ds no_exprs f i s a = let o = outside (tables exprs ss ds) at s a in let l = found_within exprs at x f in absurd (omega arith)
 only exprs at x ss ds (expr_then e es) f i s a =
     (e, ap (λ fs. expr_then e fs) (ended (tables exprs ss ds) x.next es (found_stands exprs at x ss ds e (exprs_row es) f a).2 i))
 
 -- so a step at it is a step at that item
-stepped_only : (exprs : List ExprRecord) (at : ℕ) (x : ExprRecord) (r : LastStep) → Found exprs at x → length exprs ≤ x.next
-    → ((ss : List StmtRecord) (ds : List DeclRecord) (e : Expr) → At (tables exprs ss ds) (expr_at at) (expr_row e end) → LastStepped exprs ss ds (expr_then e no_exprs) r)
+stepped_only : (exprs : List ExprRecord) (at : ℕ) (x : ExprRecord) (r : ControlFlow Bool ℕ) → Found exprs at x → length exprs ≤ x.next
+    → ((ss : List StmtRecord) (ds : List DeclRecord) (e : Expr) → At (tables exprs ss ds) (expr_at at) (expr_row e end)
+    → LastStepped exprs ss ds (expr_then e no_exprs) r)
     → StepsLast exprs at r
 stepped_only exprs at x r f i h ss ds es s a =
     let o = only exprs at x ss ds es f i s a in
     subst (λ (fs : Exprs). LastStepped exprs ss ds fs r) (sym o.1)
     (h ss ds o.0 (subst (λ (fs : Exprs). At (tables exprs ss ds) (expr_at at) (exprs_row fs)) o.1 a))
 
-pub step_void : (exprs : List ExprRecord) (at : ℕ) (x : ExprRecord) → Found exprs at x → length exprs ≤ x.next → x.kind ≡ expression.Void → StepsLast exprs at (Last true)
-step_void exprs at x f i k = stepped_only exprs at x (Last true) f i (λ ss ds e a.
+pub step_void : (exprs : List ExprRecord) (at : ℕ) (x : ExprRecord) → Found exprs at x → length exprs ≤ x.next → x.kind ≡ expression.Void
+    → StepsLast exprs at (Break true)
+step_void exprs at x f i k = stepped_only exprs at x (Break true) f i (λ ss ds e a.
     sym (undefined_found e x.kind expression.Void (found_stands exprs at x ss ds e end f a).0 k))
 
 pub step_sequence : (exprs : List ExprRecord) (at : ℕ) (x : ExprRecord) → Found exprs at x → length exprs ≤ x.next → x.kind ≡ expression.Sequence
-    → StepsLast exprs at (On x.first)
-step_sequence exprs at x f i k = stepped_only exprs at x (On x.first) f i (λ ss ds e a.
+    → StepsLast exprs at (Continue x.first)
+step_sequence exprs at x f i k = stepped_only exprs at x (Continue x.first) f i (λ ss ds e a.
     let o = found_stands exprs at x ss ds e end f a in
     let m = records_parts e in
     (parts_of e, o.1, omega arith, sym (undefined_found e x.kind expression.Sequence o.0 k)))
 
 pub step_other : (exprs : List ExprRecord) (at : ℕ) (x : ExprRecord) → Found exprs at x → length exprs ≤ x.next
-    → Other x.kind expression.Void → Other x.kind expression.Sequence → StepsLast exprs at (Last false)
-step_other exprs at x f i p q = stepped_only exprs at x (Last false) f i (λ ss ds e a.
+    → Other x.kind expression.Void → Other x.kind expression.Sequence → StepsLast exprs at (Break false)
+step_other exprs at x f i p q = stepped_only exprs at x (Break false) f i (λ ss ds e a.
     sym (undefined_found e x.kind x.kind (found_stands exprs at x ss ds e end f a).0 refl ∙ undefined_rest x.kind (last_undefined (parts_of e)) p q))
 
 -- after so many steps what is left of a row has the same last item
@@ -242,7 +206,7 @@ truth_rest (not e) p q = absurd (p refl)
 truth_rest (void e) p q = absurd (q refl)
 truth_rest (strict_equality a b) p q = refl
 
-pub turn_not : (exprs : List ExprRecord) (at : ℕ) (x : ExprRecord) → Found exprs at x → x.kind ≡ expression.Not → StepsTruth exprs at (Turn x.first)
+pub turn_not : (exprs : List ExprRecord) (at : ℕ) (x : ExprRecord) → Found exprs at x → x.kind ≡ expression.Not → StepsTruth exprs at (Continue x.first)
 turn_not exprs at x f k ss ds e w s a n =
     let o = found_stands exprs at x ss ds e w f a in
     let p = truth_not e (o.0 ∙ k) in
@@ -251,26 +215,33 @@ turn_not exprs at x f k ss ds e w s a n =
     (p.0, end, subst (λ (fs : Exprs). At (tables exprs ss ds) (expr_at x.first) (exprs_row fs)) p.1 o.1, omega arith, p.2)
 
 pub told_void : (exprs : List ExprRecord) (at : ℕ) (x : ExprRecord) (r : Option Bool) → Found exprs at x → x.kind ≡ expression.Void
-    → AnswersRow (λ es. false_if (all_harmless es)) exprs x.first r → StepsTruth exprs at (Told r)
+    → AnswersRow (λ es. false_if (all_harmless es)) exprs x.first r → StepsTruth exprs at (Break r)
 told_void exprs at x r f k h ss ds e w s a n =
     let o = found_stands exprs at x ss ds e w f a in
     let m = records_parts e in
     h ss ds (parts_of e) s o.1 (omega arith) ∙ truth_void e (o.0 ∙ k)
 
-pub told_other : (exprs : List ExprRecord) (at : ℕ) (x : ExprRecord) (r : Option Bool) → Found exprs at x → Other x.kind expression.Not → Other x.kind expression.Void
-    → r ≡ kind_truth x.kind → StepsTruth exprs at (Told r)
+pub told_other : (exprs : List ExprRecord) (at : ℕ) (x : ExprRecord) (r : Option Bool) → Found exprs at x → Other x.kind expression.Not
+    → Other x.kind expression.Void → r ≡ kind_truth x.kind → StepsTruth exprs at (Break r)
 told_other exprs at x r f p q t ss ds e w s a n =
     let k = (found_stands exprs at x ss ds e w f a).0 in
     t ∙ ap kind_truth (sym k) ∙ truth_rest e (λ h. p (sym k ∙ h)) (λ h. q (sym k ∙ h))
+
+-- a known truth, turned round where a flag says so
+abbrev pub turned_if : Bool → Option Bool → Option Bool
+turned_if true o = turned o
+turned_if false o = o
 
 -- under so many nots stands an expression whose truth, turned round or not, is the one asked for
 abbrev pub UnderNots : List ExprRecord → ℕ → ℕ → Bool → ℕ → Type 0
 UnderNots exprs at part turn steps =
     (ss : List StmtRecord) (ds : List DeclRecord) (e : Expr) (w : Row) → Short (tables exprs ss ds) → At (tables exprs ss ds) (expr_at at) (expr_row e w)
     → records_expr e ≤ length exprs
-    → (f : Expr) × (v : Row) × At (tables exprs ss ds) (expr_at part) (expr_row f v) × (records_expr f + steps ≤ length exprs) × (turned_if turn (reader_truth f) ≡ reader_truth e)
+    → (f : Expr) × (v : Row) × At (tables exprs ss ds) (expr_at part) (expr_row f v) × (records_expr f + steps ≤ length exprs)
+    × (turned_if turn (reader_truth f) ≡ reader_truth e)
 
-pub under_end : (exprs : List ExprRecord) (at part : ℕ) (turn : Bool) (steps : ℕ) → UnderNots exprs at part turn steps → length exprs ≤ steps → Answers reader_truth exprs at None
+pub under_end : (exprs : List ExprRecord) (at part : ℕ) (turn : Bool) (steps : ℕ) → UnderNots exprs at part turn steps → length exprs ≤ steps
+    → Answers reader_truth exprs at None
 under_end exprs at part turn steps g i ss ds e w s a n =
     let o = g ss ds e w s a n in
     let m = o.3 in

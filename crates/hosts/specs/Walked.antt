@@ -1,5 +1,7 @@
 -- What the walks over the table answer on their way to a fact.
 use Rattle.std.specs.Prelude.{◌≡◌, ℕ, suc, ◌-◌, ◌<◌, ◌≤◌, Bool, true, false, List, length, Some, None, Option}
+use Rattle.std.specs.declared.ops.ControlFlow.{ControlFlow}
+use Rattle.std.specs.declared.ops.ControlFlow.TheVariants.{Break, Continue}
 use Rattle.script.specs.declared.ExpressionKind.{ExpressionKind}
 use Rattle.script.specs.declared.ExpressionKind.TheVariants as expression
 use Rattle.script.specs.Tree.{Expr, Exprs}
@@ -14,10 +16,6 @@ use Rattle.records.specs.Readable.{tables}
 use Rattle.records.specs.Embedding.{expr_row, exprs_row}
 use Rattle.hosts.specs.declared.reader.Decided.{Decided}
 use Rattle.hosts.specs.declared.reader.Decided.TheVariants.{Always, ByParts, Never}
-use Rattle.hosts.specs.declared.reader.LastStep.{LastStep}
-use Rattle.hosts.specs.declared.reader.LastStep.TheVariants.{Last, On}
-use Rattle.hosts.specs.declared.reader.TruthStep.{TruthStep}
-use Rattle.hosts.specs.declared.reader.TruthStep.TheVariants.{Told, Turn}
 use Rattle.hosts.specs.Known.{number_truth, word_truth, reader_harmless, all_harmless, last_undefined, turned, reader_truth}
 
 -- the truth of a literal by its kind
@@ -68,28 +66,24 @@ pub record WalksRow (exprs : List ExprRecord) (row : ℕ) (budget : ℕ) (r : Op
       → At (tables exprs ss ds) (expr_at row) (exprs_row es) → records_exprs es ≤ budget → r ≡ spent (all_harmless es) budget (records_exprs es)
 
 -- one step towards the last item: the answer, or where to go on
-abbrev pub LastStepped : List ExprRecord → List StmtRecord → List DeclRecord → Exprs → LastStep → Type 0
-LastStepped exprs ss ds es (Last b) = b ≡ last_undefined es
-LastStepped exprs ss ds es (On to) =
+abbrev pub LastStepped : List ExprRecord → List StmtRecord → List DeclRecord → Exprs → ControlFlow Bool ℕ → Type 0
+LastStepped exprs ss ds es (Break b) = b ≡ last_undefined es
+LastStepped exprs ss ds es (Continue to) =
     (fs : Exprs) × At (tables exprs ss ds) (expr_at to) (exprs_row fs) × (records_exprs fs < records_exprs es) × (last_undefined fs ≡ last_undefined es)
 
-abbrev pub StepsLast : List ExprRecord → ℕ → LastStep → Type 0
+abbrev pub StepsLast : List ExprRecord → ℕ → ControlFlow Bool ℕ → Type 0
 StepsLast exprs at r =
     (ss : List StmtRecord) (ds : List DeclRecord) (es : Exprs) → Short (tables exprs ss ds)
     → At (tables exprs ss ds) (expr_at at) (exprs_row es) → LastStepped exprs ss ds es r
 
 -- one step towards what stands under every not
-abbrev pub TruthStepped : List ExprRecord → List StmtRecord → List DeclRecord → Expr → TruthStep → Type 0
-TruthStepped exprs ss ds e (Told o) = o ≡ reader_truth e
-TruthStepped exprs ss ds e (Turn to) =
-    (f : Expr) × (w : Row) × At (tables exprs ss ds) (expr_at to) (expr_row f w) × (records_expr f < records_expr e) × (turned (reader_truth f) ≡ reader_truth e)
+abbrev pub TruthStepped : List ExprRecord → List StmtRecord → List DeclRecord → Expr → ControlFlow (Option Bool) ℕ → Type 0
+TruthStepped exprs ss ds e (Break o) = o ≡ reader_truth e
+TruthStepped exprs ss ds e (Continue to) =
+    (f : Expr) × (w : Row) × At (tables exprs ss ds) (expr_at to) (expr_row f w) × (records_expr f < records_expr e)
+    × (turned (reader_truth f) ≡ reader_truth e)
 
-abbrev pub StepsTruth : List ExprRecord → ℕ → TruthStep → Type 0
+abbrev pub StepsTruth : List ExprRecord → ℕ → ControlFlow (Option Bool) ℕ → Type 0
 StepsTruth exprs at r =
     (ss : List StmtRecord) (ds : List DeclRecord) (e : Expr) (w : Row) → Short (tables exprs ss ds)
     → At (tables exprs ss ds) (expr_at at) (expr_row e w) → records_expr e ≤ length exprs → TruthStepped exprs ss ds e r
-
--- a known truth, turned round where a flag says so
-abbrev pub turned_if : Bool → Option Bool → Option Bool
-turned_if true o = turned o
-turned_if false o = o

@@ -7,7 +7,7 @@ use crate::literal::{kind_truth, record_at};
 use records::ExprRecord;
 
 #[derive(Clone, Copy)]
-pub struct Bare {}
+pub struct Bare;
 
 impl Host for Bare {
     ghost meaning = { λ _. bare };
@@ -23,9 +23,6 @@ impl Host for Bare {
     }
 
     fn truth(&self, exprs: &[ExprRecord], at: u32) -> Option<bool> {
-        match record_at(exprs, at) {
-            None => None,
-            Some(expr) => kind_truth(expr.kind),
-        }
+        kind_truth(record_at(exprs, at)?.kind)
     }
 }

@@ -1,6 +1,5 @@
 // Literals: numbers and words.
-ghost use Rattle.std.specs.Prelude.{◌≡◌, ◌<◌, ◌≤◌, length, Some, None, slice_index_or};
-ghost use Rattle.records.specs.Heap.{blank_expr};
+ghost use Rattle.std.specs.Prelude.{◌≡◌, slice_get};
 ghost use Rattle.hosts.specs.Walked.{kind_truth};
 
 use records::ExprRecord;
@@ -8,15 +7,9 @@ use script::{ExpressionKind, Word};
 
 // The record at a place, if there is one.
 pub fn record_at(exprs: &[ExprRecord], at: u32) -> Option<ExprRecord>
-    ensures { elim result [
-      | None ↦ length exprs.now ≤ at
-      | Some x ↦ (at < length exprs.now) × (x ≡ slice_index_or exprs.now at blank_expr)
-    ] }
+    ensures { result ≡ slice_get exprs.now at }
 {
-    if at as usize >= exprs.len() {
-        return None;
-    }
-    Some(exprs[at as usize])
+    exprs.get(at as usize).copied()
 }
 
 // The truth of a literal; other kinds are not known.
@@ -25,10 +18,8 @@ pub fn kind_truth(kind: ExpressionKind) -> Option<bool>
 {
     match kind {
         ExpressionKind::Number(bits) => Some(bits != 0),
-        ExpressionKind::Word(word) => match word {
-            Word::True => Some(true),
-            Word::False | Word::Null => Some(false),
-        },
+        ExpressionKind::Word(Word::True) => Some(true),
+        ExpressionKind::Word(Word::False | Word::Null) => Some(false),
         _ => None,
     }
 }

@@ -2,16 +2,17 @@
 ghost use Rattle.std.specs.Prelude.{◌≡◌};
 ghost use Rattle.hosts.specs.Known.{reader, all_harmless, last_undefined, false_if};
 ghost use Rattle.hosts.specs.Asked.{AnswersRow};
-ghost use Rattle.hosts.specs.Walked.{decision, WalksOne, WalksRow, StepsLast, StepsTruth, turned_if};
+ghost use Rattle.hosts.specs.Walked.{decision, WalksOne, WalksRow, StepsLast, StepsTruth};
 ghost use Rattle.hosts.specs.Laws.{reader_lawful};
 
 use crate::host::Host;
 use crate::literal::{kind_truth, record_at};
 use records::ExprRecord;
 use script::ExpressionKind;
+use std::ops::ControlFlow;
 
 #[derive(Clone, Copy)]
-pub struct Reader {}
+pub struct Reader;
 
 // What decides whether an expression is harmless.
 #[derive(Clone, Copy)]
@@ -19,20 +20,6 @@ pub enum Decided {
     Always,
     ByParts,
     Never,
-}
-
-// A step along a row to its last item: the answer there, or the place to go on at.
-#[derive(Clone, Copy)]
-pub enum LastStep {
-    Last(bool),
-    On(u32),
-}
-
-// A step into a `!`: the answer, or the place of the part whose truth is turned round.
-#[derive(Clone, Copy)]
-pub enum TruthStep {
-    Told(Option<bool>),
-    Turn(u32),
 }
 
 // Literals are harmless, names and calls never are; the others are what their parts are.
@@ -53,13 +40,11 @@ fn decision(kind: ExpressionKind) -> Decided
 fn walk(exprs: &[ExprRecord], at: u32, budget: usize) -> Option<usize>
     ensures { WalksOne exprs.now at budget result }
 {
-    if budget == 0 {
-        return None;
-    }
+    let left = budget.checked_sub(1)?;
     let expr = record_at(exprs, at)?;
     match decision(expr.kind) {
-        Decided::Always => Some(budget - 1),
-        Decided::ByParts => walk_row(exprs, expr.first, budget - 1),
+        Decided::Always => Some(left),
+        Decided::ByParts => walk_row(exprs, expr.first, left),
         Decided::Never => None,
     }
 }
@@ -78,20 +63,20 @@ fn walk_row(exprs: &[ExprRecord], row: u32, budget: usize) -> Option<usize>
     Some(left)
 }
 
-// Goes on along a row, or into a sequence that is its last item.
-fn last_step(exprs: &[ExprRecord], at: u32) -> LastStep
+// A step along a row, or into a sequence that is its last item: the answer, or the place to go on at.
+fn last_step(exprs: &[ExprRecord], at: u32) -> ControlFlow<bool, u32>
     ensures { StepsLast exprs.now at result }
 {
     let Some(expr) = record_at(exprs, at) else {
-        return LastStep::Last(false);
+        return ControlFlow::Break(false);
     };
     if (expr.next as usize) < exprs.len() {
-        return LastStep::On(expr.next);
+        return ControlFlow::Continue(expr.next);
     }
     match expr.kind {
-        ExpressionKind::Void => LastStep::Last(true),
-        ExpressionKind::Sequence => LastStep::On(expr.first),
-        _ => LastStep::Last(false),
+        ExpressionKind::Void => ControlFlow::Break(true),
+        ExpressionKind::Sequence => ControlFlow::Continue(expr.first),
+        _ => ControlFlow::Break(false),
     }
 }
 
@@ -100,10 +85,10 @@ fn last_undefined(exprs: &[ExprRecord], row: u32) -> bool
     ensures { AnswersRow last_undefined exprs.now row result }
 {
     let mut at = row;
-    for _i in 0..exprs.len() {
+    for _ in 0..exprs.len() {
         match last_step(exprs, at) {
-            LastStep::Last(answer) => return answer,
-            LastStep::On(to) => at = to,
+            ControlFlow::Break(answer) => return answer,
+            ControlFlow::Continue(to) => at = to,
         }
     }
     false
@@ -113,33 +98,20 @@ fn last_undefined(exprs: &[ExprRecord], row: u32) -> bool
 fn void_truth(exprs: &[ExprRecord], row: u32) -> Option<bool>
     ensures { AnswersRow (λ es. false_if (all_harmless es)) exprs.now row result }
 {
-    match walk_row(exprs, row, exprs.len()) {
-        None => None,
-        Some(_) => Some(false),
-    }
+    walk_row(exprs, row, exprs.len()).map(|_| false)
 }
 
-// Goes into a `!`, or tells what is known of a `void` or a literal.
-fn truth_step(exprs: &[ExprRecord], at: u32) -> TruthStep
+// A step into a `!`, or what is known of a `void` or a literal: the answer, or the place of the part whose truth is turned round.
+fn truth_step(exprs: &[ExprRecord], at: u32) -> ControlFlow<Option<bool>, u32>
     ensures { StepsTruth exprs.now at result }
 {
     let Some(expr) = record_at(exprs, at) else {
-        return TruthStep::Told(None);
+        return ControlFlow::Break(None);
     };
     match expr.kind {
-        ExpressionKind::Not => TruthStep::Turn(expr.first),
-        ExpressionKind::Void => TruthStep::Told(void_truth(exprs, expr.first)),
-        kind => TruthStep::Told(kind_truth(kind)),
-    }
-}
-
-// A known truth, turned round if asked.
-fn turned_if(turn: bool, known: Option<bool>) -> Option<bool>
-    ensures { result ≡ turned_if turn known }
-{
-    match known {
-        None => None,
-        Some(truth) => Some(truth != turn),
+        ExpressionKind::Not => ControlFlow::Continue(expr.first),
+        ExpressionKind::Void => ControlFlow::Break(void_truth(exprs, expr.first)),
+        kind => ControlFlow::Break(kind_truth(kind)),
     }
 }
 
@@ -166,10 +138,10 @@ impl Host for Reader {
     fn truth(&self, exprs: &[ExprRecord], at: u32) -> Option<bool> {
         let mut part = at;
         let mut turn = false;
-        for _i in 0..exprs.len() {
+        for _ in 0..exprs.len() {
             match truth_step(exprs, part) {
-                TruthStep::Told(known) => return turned_if(turn, known),
-                TruthStep::Turn(to) => {
+                ControlFlow::Break(known) => return known.map(|truth| truth != turn),
+                ControlFlow::Continue(to) => {
                     part = to;
                     turn = !turn;
                 }

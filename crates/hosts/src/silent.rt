@@ -7,7 +7,7 @@ use crate::host::Host;
 use records::ExprRecord;
 
 #[derive(Clone, Copy)]
-pub struct Silent {}
+pub struct Silent;
 
 impl Host for Silent {
     ghost meaning = { λ _. silent };

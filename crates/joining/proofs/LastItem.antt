@@ -1,11 +1,12 @@
 -- The way to the last item of an expression, and work there as work on the whole expression.
-use mathlib.Core.Path.{◌≡◌, refl, subst, sym}
+use mathlib.Core.Path.{◌≡◌, refl}
 use mathlib.Core.List.{List, [], ◌++◌, ◌∷◌}
 use Prim.Native.Nat.{ℕ, ◌≤◌}
 use native.Mathlib.Omega.{arith}
 use lib.ListN.{get_or}
 use Rattle.script.specs.Sound.{count_exprs}
-use Rattle.script.specs.Tree.{Expr, Exprs, assignment, call, conditional, expr_then, logical, name, no_exprs, not, number, sequence, strict_equality, void, word}
+use Rattle.script.specs.Tree.{Expr, Exprs, assignment, call, conditional, expr_then, logical, name, no_exprs, not, number, sequence, strict_equality, void}
+use Rattle.script.specs.Tree.{word}
 use Rattle.records.specs.declared.record.Pools.{Pools}
 use Rattle.records.specs.Embedding.{expr_row, exprs_row}
 use Rattle.records.specs.Heap.{Heap, Place, blank_expr, expr_at}
@@ -27,9 +28,7 @@ module _ {h h' : Heap} {p p' : Pools} {j : ℕ} (given : List Root) (f : Expr �
   here : (y : Expr) (w : Row) (i : ℕ) → expr_at j ≡ expr_at i → (loose : List Place) (rest : List Root)
       → Owns h p loose ((expr_at i, expr_row y w) ∷ (rest ++ given)) → Moved h h' p' loose ((expr_at i, expr_row (f y) w) ∷ rest)
   here y w i z loose rest o =
-      let q : j ≡ i = cc in
-      subst (λ (k : ℕ). Moved h h' p' loose ((expr_at k, expr_row (f y) w) ∷ rest)) q
-      (works y w loose rest (subst (λ (k : ℕ). Owns h p loose ((expr_at k, expr_row y w) ∷ (rest ++ given))) (sym q) o))
+      let q : i ≡ j = cc in rw q (works y w loose rest (rw q at o))
 
   mutual
     in_item : (e : Expr) (w : Row) (i : ℕ) → expr_at j ≡ last_item_place h (expr_at i) e → (loose : List Place) (rest : List Root)

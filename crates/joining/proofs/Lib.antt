@@ -4,3 +4,4 @@ pub mod LastItem
 pub mod WayToLast
 pub mod Negated
 pub mod Pending
+pub mod Lengths

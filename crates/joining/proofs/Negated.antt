@@ -1,5 +1,5 @@
 -- What is owned after an expression was negated in place.
-use mathlib.Core.Path.{◌≡◌, ◌∙◌, refl, subst, sym}
+use mathlib.Core.Path.{◌≡◌, ◌∙◌, refl}
 use mathlib.Core.List.{List, ◌∷◌}
 use Prim.Native.Nat.{ℕ}
 use lib.ListN.{get_or, set}
@@ -22,7 +22,7 @@ use Rattle.moves.specs.First.{expr_kind}
 use Rattle.moves.specs.Moved.{Moved}
 use Rattle.records.proofs.Moves.{end_out, pick}
 use Rattle.moves.proofs.ByKind.{expr_of_kind}
-use Rattle.moves.proofs.Frames.{kept_both, kept_others}
+use Rattle.moves.proofs.Frames.{then_use}
 use Rattle.moves.proofs.Open.{close_expr, kind_of_expr, open_expr}
 use Rattle.moves.proofs.Single.{give_expr_of}
 
@@ -47,7 +47,8 @@ up exprs at = record {
   next = (get_or exprs at blank_expr).next;
 }
 
-module _ {exprs exprs₁ : List ExprRecord} {ss : List StmtRecord} {ds : List DeclRecord} {p : Pools} {p₁ : Pool} {loose : List Place} {rest : List Root} {at : ℕ} where
+module _ {exprs exprs₁ : List ExprRecord} {ss : List StmtRecord} {ds : List DeclRecord} {p : Pools} {p₁ : Pool}
+    {loose : List Place} {rest : List Root} {at : ℕ} where
   -- the content under a `!` moves up, and its record is given back
   pub moved_up : expression.Not ≡ (get_or exprs at blank_expr).kind → Gave expr_relinked exprs p.exprs (get_or exprs at blank_expr).first exprs₁ p₁
       → (e : Expr) (w : Row) → Owns (tables exprs ss ds) p loose ((expr_at at, expr_row e w) ∷ rest)
@@ -56,9 +57,7 @@ module _ {exprs exprs₁ : List ExprRecord} {ss : List StmtRecord} {ds : List De
   moved_up k g e w o =
       let s = expr_of_kind e (k ∙ kind_of_expr e w o) in
       let x = s.0 in
-      let o₁ = open_expr (not x) w (subst (λ (v : Expr). Owns (tables exprs ss ds) p loose ((expr_at at, expr_row v w) ∷ rest)) s.1 o) in
-      let m = give_expr_of (get_or exprs at blank_expr).first exprs₁ p₁ g (open_expr x end o₁) in
-      let q = close_expr x w (up exprs at) (kind_of_expr x end o₁) (end_out (pick 1 m.owned)) in
-      subst (λ (v : Expr). Moved (tables exprs ss ds) (tables (set exprs₁ at (up exprs at)) ss ds)
-      (record { exprs = p₁; stmts = p.stmts; decls = p.decls }) loose ((expr_at at, expr_row (negate v) w) ∷ rest)) (sym s.1)
-      (record { owned = q.owned; kept = kept_both (kept_others m.kept) q.kept })
+      let o₁ = open_expr (not x) w (rw s.1 at o) in
+      rw s.1
+      (then_use (give_expr_of (get_or exprs at blank_expr).first exprs₁ p₁ g (open_expr x end o₁))
+      (λ q. close_expr x w (up exprs at) (kind_of_expr x end o₁) (end_out (pick 1 q))))

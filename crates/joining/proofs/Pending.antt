@@ -1,12 +1,11 @@
 -- What is owned while a row of pending expressions is joined onto an expression in place.
-use mathlib.Core.Path.{◌≡◌, ◌∙◌, ap, refl, subst, sym}
+use mathlib.Core.Path.{◌≡◌, ◌∙◌, ap, refl, sym}
 use mathlib.Core.Bool.{Bool, cond, false, true}
 use mathlib.Core.List.{List, [], ◌∷◌}
 use mathlib.Core.Logic.{◌≢◌}
 use Prim.Native.Nat.{ℕ, ◌+◌, ◌≤◌, suc}
 use native.Mathlib.Omega.{arith}
-use lib.Dec.{T}
-use lib.ListN.{get_or, set}
+use lib.ListN.{get_or}
 use Rattle.pool.specs.Chain.{nowhere}
 use Rattle.pool.specs.declared.Pool.{Pool}
 use Rattle.script.specs.declared.ExpressionKind.{ExpressionKind}
@@ -14,7 +13,8 @@ use Rattle.script.specs.declared.ExpressionKind.TheVariants as expression
 use Rattle.script.specs.declared.LogicalOperator.{LogicalOperator}
 use Rattle.script.specs.declared.LogicalOperator.TheVariants.{And, Nullish, Or}
 use Rattle.script.specs.Sound.{count_exprs, records_expr, records_exprs}
-use Rattle.script.specs.Tree.{Expr, Exprs, assignment, call, conditional, expr_then, logical, name, no_exprs, not, number, sequence, strict_equality, void, word}
+use Rattle.script.specs.Tree.{Expr, Exprs, assignment, call, conditional, expr_then, logical, name, no_exprs, not, number, sequence, strict_equality, void}
+use Rattle.script.specs.Tree.{word}
 use Rattle.records.specs.declared.record.DeclRecord.{DeclRecord}
 use Rattle.records.specs.declared.record.ExprRecord.{ExprRecord}
 use Rattle.records.specs.declared.record.Pools.{Pools}
@@ -32,12 +32,12 @@ use Rattle.moves.specs.First.{expr_kind}
 use Rattle.moves.specs.Last.{exprs_before}
 use Rattle.moves.specs.Moved.{Moved, Turns}
 use Rattle.joining.specs.Pending.{has_operator, onto_first, pending_then}
-use Rattle.records.proofs.Moves.{end_in, end_out, pick}
+use Rattle.records.proofs.Moves.{end_out, pick}
 use Rattle.records.proofs.Tallies.{lengths, records_expr_row, records_exprs_row}
 use Rattle.moves.proofs.ByKind.{expr_of_kind}
-use Rattle.moves.proofs.Frames.{arrange, kept_both, kept_others, regroup, then_move}
-use Rattle.moves.proofs.Open.{close_expr, kind_of_expr, open_expr}
-use Rattle.moves.proofs.Rows.{expr_within, relinked}
+use Rattle.moves.proofs.Frames.{arrange, regroup, then_move, then_use}
+use Rattle.moves.proofs.Open.{kind_of_expr, open_expr}
+use Rattle.moves.proofs.Rows.{expr_within}
 use Rattle.moves.proofs.Single.{give_expr_of}
 use Rattle.moves.proofs.Spared.{spared}
 use Rattle.joining.proofs.WayToLast.{records_some}
@@ -58,7 +58,7 @@ operator_of o (expression.Assignment n) e = false_true e
 operator_of o (expression.Call n) e = false_true e
 operator_of o expression.Sequence e = false_true e
 operator_of o expression.Conditional e = false_true e
-operator_of o (expression.Logical p) e = ap (λ (q : LogicalOperator). expression.Logical q) (same_operator_is o p (subst (λ (b : Bool). T b) (sym e) tt))
+operator_of o (expression.Logical p) e = ap (λ (q : LogicalOperator). expression.Logical q) (same_operator_is o p (rw e tt))
 operator_of o expression.Not e = false_true e
 operator_of o expression.Void e = false_true e
 operator_of o expression.StrictEquality e = false_true e
@@ -76,7 +76,8 @@ pending_rest o (not x) xs e = refl
 pending_rest o (void x) xs e = refl
 pending_rest o (strict_equality a b) xs e = refl
 
-module _ {exprs exprs₁ : List ExprRecord} {ss : List StmtRecord} {ds : List DeclRecord} {p : Pools} {loose : List Place} {rest : List Root} {at pending : ℕ} where
+module _ {exprs exprs₁ : List ExprRecord} {ss : List StmtRecord} {ds : List DeclRecord} {p : Pools}
+    {loose : List Place} {rest : List Root} {at pending : ℕ} where
   -- the first pending has the operator: its parts are linked before the others, and its record is given back
   pub taken_apart : {exprs₂ : List ExprRecord} {p₂ : Pool} (o : LogicalOperator) (x y : Expr) (xs : Exprs) (w : Row)
       → has_operator o (get_or exprs pending blank_expr).kind ≡ true
@@ -92,35 +93,29 @@ module _ {exprs exprs₁ : List ExprRecord} {ss : List StmtRecord} {ds : List De
       let s = expr_of_kind x (operator_of o (get_or exprs pending blank_expr).kind k ∙ kind_of_expr x (exprs_row xs) (pick 1 q)) in
       let l = s.0 in
       let r = s.1 in
-      let q₁ = open_expr (logical o l r) (exprs_row xs)
-      (subst (λ (v : Expr). Owns (tables exprs ss ds) p loose ((expr_at pending, expr_row v (exprs_row xs)) ∷ (expr_at at, expr_row y w) ∷ rest)) s.2 (pick 1 q)) in
-      let m = appends l (expr_then r no_exprs) (exprs_row xs) (expr_at pending ∷ loose) ((expr_at at, expr_row y w) ∷ rest) q₁ in
-      let n = give_expr_of pending exprs₂ p₂ g (pick 1 m.owned) in
-      subst (λ (v : Expr). Moved (tables exprs ss ds) (tables exprs₂ ss ds) (record { exprs = p₂; stmts = p.stmts; decls = p.decls }) loose
-      ((expr_at at, expr_row (onto_first o v y) w) ∷ (expr_at (get_or exprs pending blank_expr).first, exprs_row (pending_then o v xs)) ∷ rest)) (sym s.2)
-      (subst (λ (b : Bool). Moved (tables exprs ss ds) (tables exprs₂ ss ds) (record { exprs = p₂; stmts = p.stmts; decls = p.decls }) loose
-      ((expr_at at, expr_row (cond b y (logical o y (logical o l r))) w)
-      ∷ (expr_at (get_or exprs pending blank_expr).first, exprs_row (cond b (expr_then l (expr_then r xs)) xs)) ∷ rest)) (sym (same_self o))
-      (record { owned = n.owned; kept = kept_both (kept_others m.kept) n.kept }))
+      let q₁ = open_expr (logical o l r) (exprs_row xs) (pick 1 (rw s.2 at q)) in
+      rw (s.2, same_self o)
+      (then_use (appends l (expr_then r no_exprs) (exprs_row xs) (expr_at pending ∷ loose) ((expr_at at, expr_row y w) ∷ rest) q₁)
+      (λ m. give_expr_of pending exprs₂ p₂ g (pick 1 m)))
 
   -- it has not: it is taken out of the row, and becomes the right side
-  pub set_aside : {p₁ : Pools} (o : LogicalOperator) (x y : Expr) (xs : Exprs) (w : Row)
+  pub set_aside : {p₁ : Pools} {cut : List ExprRecord} {behind : ℕ} (o : LogicalOperator) (x y : Expr) (xs : Exprs) (w : Row)
       → has_operator o (get_or exprs pending blank_expr).kind ≡ false
+      → ((e : Expr) (v : Row)
+      → Turns (tables exprs ss ds) p (tables cut ss ds) p []
+      ((expr_at pending, expr_row e v) ∷ []) ((expr_at pending, expr_row e end) ∷ (expr_at behind, v) ∷ []))
       → ((e : Expr) (u v : Row)
-      → Turns (tables (set exprs pending (relinked exprs pending nowhere)) ss ds) p (tables exprs₁ ss ds) p₁ []
+      → Turns (tables cut ss ds) p (tables exprs₁ ss ds) p₁ []
       ((expr_at at, expr_row e u) ∷ (expr_at pending, v) ∷ []) ((expr_at at, node (expr_label (expression.Logical o)) (expr_row e v) end end u) ∷ []))
       → Owns (tables exprs ss ds) p loose ((expr_at at, expr_row y w) ∷ (expr_at pending, expr_row x (exprs_row xs)) ∷ rest)
       → Moved (tables exprs ss ds) (tables exprs₁ ss ds) p₁ loose
-      ((expr_at at, expr_row (onto_first o x y) w) ∷ (expr_at (get_or exprs pending blank_expr).next, exprs_row (pending_then o x xs)) ∷ rest)
-  set_aside {p₁} o x y xs w k wraps q =
+      ((expr_at at, expr_row (onto_first o x y) w) ∷ (expr_at behind, exprs_row (pending_then o x xs)) ∷ rest)
+  set_aside {behind = behind} o x y xs w k cuts wraps q =
       let t = kind_of_expr x (exprs_row xs) (pick 1 q) in
-      let f : has_operator o (expr_kind x) ≡ false = subst (λ (v : ExpressionKind). has_operator o v ≡ false) t k in
-      let m = close_expr x end (relinked exprs pending nowhere) t (pick 1 (end_in (expr_at nowhere) refl (open_expr x (exprs_row xs) (pick 1 q)))) in
-      subst (λ (v : Exprs). Moved (tables exprs ss ds) (tables exprs₁ ss ds) p₁ loose
-      ((expr_at at, expr_row (onto_first o x y) w) ∷ (expr_at (get_or exprs pending blank_expr).next, exprs_row v) ∷ rest)) (sym (pending_rest o x xs f))
-      (subst (λ (b : Bool). Moved (tables exprs ss ds) (tables exprs₁ ss ds) p₁ loose
-      ((expr_at at, expr_row (cond b y (logical o y x)) w) ∷ (expr_at (get_or exprs pending blank_expr).next, exprs_row xs) ∷ rest)) (sym f)
-      (then_move m (λ v. wraps y w (expr_row x end) loose ((expr_at (get_or exprs pending blank_expr).next, exprs_row xs) ∷ rest) (arrange (2 ∷ 0 ∷ []) v))))
+      let f : has_operator o (expr_kind x) ≡ false = rw t at k in
+      rw (pending_rest o x xs f, f)
+      (then_move (cuts x (exprs_row xs) loose ((expr_at at, expr_row y w) ∷ rest) (pick 1 q))
+      (λ v. wraps y w (expr_row x end) loose ((expr_at behind, exprs_row xs) ∷ rest) (arrange (2 ∷ 0 ∷ []) v)))
 
 -- all of a row joined, one after the other
 abbrev pub join_all : LogicalOperator → Exprs → Expr → Expr
@@ -176,7 +171,8 @@ step o (void x) xs y = record { balance = omega arith; fewer = omega arith }
 step o (strict_equality a b) xs y = record { balance = omega arith; fewer = omega arith }
 
 -- after n steps: what is joined, what is pending, and enough spare records for it
-pub record JoinedSoFar (h h' : Heap) (p' : Pools) (loose : List Place) (rest : List Root) (o : LogicalOperator) (at pending n : ℕ) (x y : Expr) (w : Row) : Type 0 where
+pub record JoinedSoFar (h h' : Heap) (p' : Pools) (loose : List Place) (rest : List Root) (o : LogicalOperator)
+    (at pending n : ℕ) (x y : Expr) (w : Row) : Type 0 where
   pub joined : Expr
   pub left : Exprs
   pub moved : Moved h h' p' loose ((expr_at at, expr_row joined w) ∷ (expr_at pending, exprs_row left) ∷ rest)
@@ -192,18 +188,19 @@ JoinsOn exprs p exprs' p' o at b pending n =
 
 module _ {h h₁ : Heap} {p₁ : Pools} {loose : List Place} {rest : List Root} {o : LogicalOperator} {at pending n : ℕ} {x y : Expr} {w : Row} where
   -- nothing is pending any more
-  pub none_left : JoinedSoFar h h₁ p₁ loose rest o at pending n x y w → pending ≡ nowhere → Moved h h₁ p₁ loose ((expr_at at, expr_row (join_onto o x y) w) ∷ rest)
+  pub none_left : JoinedSoFar h h₁ p₁ loose rest o at pending n x y w → pending ≡ nowhere
+      → Moved h h₁ p₁ loose ((expr_at at, expr_row (join_onto o x y) w) ∷ rest)
   none_left s z = by s.left s.joined s.moved s.same
     where
       by : (es : Exprs) (e : Expr) → Moved h h₁ p₁ loose ((expr_at at, expr_row e w) ∷ (expr_at pending, exprs_row es) ∷ rest)
           → join_all o es e ≡ join_onto o x y → Moved h h₁ p₁ loose ((expr_at at, expr_row (join_onto o x y) w) ∷ rest)
-      by no_exprs e m j =
-          subst (λ (v : Expr). Moved h h₁ p₁ loose ((expr_at at, expr_row v w) ∷ rest)) j (regroup m (λ q. end_out (pick 1 q)))
+      by no_exprs e m j = rw (sym j) (regroup m (λ q. end_out (pick 1 q)))
       by (expr_then a es) e m j =
           let v = expr_within h₁ pending a (exprs_row es) m.owned.held.1.0 in let u = m.owned.short.exprs in absurd (omega arith)
 
   -- as many steps as there are records leave nothing
-  pub ran_out : JoinedSoFar h h₁ p₁ loose rest o at pending n x y w → records_expr x ≤ n → Moved h h₁ p₁ loose ((expr_at at, expr_row (join_onto o x y) w) ∷ rest)
+  pub ran_out : JoinedSoFar h h₁ p₁ loose rest o at pending n x y w → records_expr x ≤ n
+      → Moved h h₁ p₁ loose ((expr_at at, expr_row (join_onto o x y) w) ∷ rest)
   ran_out s l = by s.left s.moved s.fewer
     where
       by : (es : Exprs) → Moved h h₁ p₁ loose ((expr_at at, expr_row s.joined w) ∷ (expr_at pending, exprs_row es) ∷ rest)

@@ -1,12 +1,13 @@
 -- The way to the last item of an expression, one sequence after the other.
-use mathlib.Core.Path.{◌≡◌, ◌∙◌, refl, subst, sym}
+use mathlib.Core.Path.{◌≡◌, ◌∙◌, refl, sym}
 use mathlib.Core.List.{List}
 use Prim.Native.Nat.{ℕ, ◌+◌, ◌<◌, ◌≤◌}
 use native.Mathlib.Omega.{arith}
 use lib.ListN.{get_or, length}
 use Rattle.script.specs.declared.ExpressionKind.TheVariants as expression
 use Rattle.script.specs.Sound.{count_exprs, records_expr, records_exprs}
-use Rattle.script.specs.Tree.{Expr, Exprs, assignment, call, conditional, expr_then, logical, name, no_exprs, not, number, sequence, strict_equality, void, word}
+use Rattle.script.specs.Tree.{Expr, Exprs, assignment, call, conditional, expr_then, logical, name, no_exprs, not, number, sequence, strict_equality, void}
+use Rattle.script.specs.Tree.{word}
 use Rattle.records.specs.declared.record.DeclRecord.{DeclRecord}
 use Rattle.records.specs.declared.record.ExprRecord.{ExprRecord}
 use Rattle.records.specs.declared.record.StmtRecord.{StmtRecord}
@@ -24,7 +25,7 @@ use Rattle.moves.proofs.Rows.{expr_behind}
 
 -- the kind of the record where an expression stands
 pub kind_there : (h : Heap) (i : ℕ) (e : Expr) (w : Row) → At h (expr_at i) (expr_row e w) → (get_or h.exprs i blank_expr).kind ≡ expr_kind e
-kind_there h i e w a = let l = (subst (λ (r : Row). At h (expr_at i) r) (expr_first e w) a).1 in cc
+kind_there h i e w a = let l = (rw (expr_first e w) at a).1 in cc
 
 pub records_some : (e : Expr) → 1 ≤ records_expr e
 records_some (number b) = omega arith
@@ -114,14 +115,8 @@ module _ (exprs : List ExprRecord) (at last n : ℕ) (inv : ToLast exprs at last
           let t = last_of_row xs (tables exprs ss ds) first x b.2 in
           let cr = counted_records xs in
           let u = row ss ds x xs s b.2 (omega arith) in
-          let y : t.0 ≡ k = let g = t.2 in cc in
-          let r = t.5 in (
-            t.1,
-            end,
-            subst (λ (m : ℕ). At (tables exprs ss ds) (expr_at m) (expr_row t.1 end)) y t.3,
-            subst (λ (m : ℕ). last_item_place (tables exprs ss ds) (expr_at m) t.1 ≡ last_item_place (tables exprs ss ds) (expr_at at) e) y (t.4 ∙ i),
-            omega arith,
-          )
+          let y : k ≡ t.0 = let g = t.2 in cc in
+          let r = t.5 in (t.1, end, rw y t.3, rw y (t.4 ∙ i), omega arith)
 
       by : (x : Expr) (v : Row) → At (tables exprs ss ds) (expr_at last) (expr_row x v)
           → last_item_place (tables exprs ss ds) (expr_at last) x ≡ last_item_place (tables exprs ss ds) (expr_at at) e
@@ -131,9 +126,7 @@ module _ (exprs : List ExprRecord) (at last n : ℕ) (inv : ToLast exprs at last
           × (records_expr e' + (n + 1) ≤ records_expr e)
       by x v b i c =
           let f = expr_of_kind x (z ∙ kind_there (tables exprs ss ds) last x v b) in
-          in_sequence f.0 f.1 v (subst (λ (y : Expr). At (tables exprs ss ds) (expr_at last) (expr_row y v)) f.2 b)
-          (subst (λ (y : Expr). last_item_place (tables exprs ss ds) (expr_at last) y ≡ last_item_place (tables exprs ss ds) (expr_at at) e) f.2 i)
-          (subst (λ (y : Expr). records_expr y + n ≤ records_expr e) f.2 c)
+          in_sequence f.0 f.1 v (rw f.2 at b) (rw f.2 at i) (rw f.2 at c)
 
   -- as many turns as there are records are more than there are sequences
   pub no_last : (ss : List StmtRecord) (ds : List DeclRecord) (e : Expr) (w : Row)

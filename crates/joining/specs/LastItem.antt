@@ -1,5 +1,6 @@
 -- Where the last item of an expression stands, through sequences that end in a sequence.
-use Rattle.script.specs.Tree.{Expr, Exprs, assignment, call, conditional, expr_then, logical, name, no_exprs, not, number, sequence, strict_equality, void, word}
+use Rattle.script.specs.Tree.{Expr, Exprs, assignment, call, conditional, expr_then, logical, name, no_exprs, not, number, sequence, strict_equality, void}
+use Rattle.script.specs.Tree.{word}
 use Rattle.records.specs.Heap.{Heap, Place, cell}
 
 -- the place for a row with nothing behind its first, or the place for what is behind

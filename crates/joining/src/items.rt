@@ -1,4 +1,5 @@
 // The last item of an expression, and what is made of it in place.
+// A routine is lent the tables that it works on and no others: those are known to stay with no clause.
 ghost use Rattle.std.specs.Prelude.{◌≡◌, List, [], ◌∷◌, ◌≤◌, length};
 ghost use Rattle.script.specs.Sound.{records_expr};
 ghost use Rattle.script.specs.Tree.{Expr};
@@ -13,7 +14,7 @@ ghost use Rattle.rules.specs.Expressions.{minimize_conditional, minimize_not, ne
 ghost use Rattle.moves.specs.Moved.{Turns};
 ghost use Rattle.joining.specs.LastItem.{last_item_place};
 
-use moves::{expr_at, give, last_of_row, link_expr, set, take};
+use moves::{give, last_of_row, link, record_at, set, take};
 use pool::NOWHERE;
 use records::{ExprRecord, Pools};
 use script::ExpressionKind;
@@ -25,13 +26,13 @@ pub fn last_item(exprs: &[ExprRecord], at: u32) -> u32
         expr_at result ≡ last_item_place (tables exprs.now ss ds) (expr_at at) e }
 {
     let mut last = at;
-    for _i in 0..exprs.len() {
-        let item = expr_at(exprs, last);
-        if let ExpressionKind::Sequence = item.kind {
-            last = last_of_row(exprs, item.first);
-        } else {
+    // Rows are linked by numbers: as many turns as there are records end any walk along them.
+    for _ in 0..exprs.len() {
+        let item = record_at(exprs, last);
+        let ExpressionKind::Sequence = item.kind else {
             return last;
-        }
+        };
+        last = last_of_row(exprs, item.first);
     }
     last
 }
@@ -42,24 +43,16 @@ pub fn wrap(exprs: &mut [ExprRecord], pools: &mut Pools, at: u32, kind: Expressi
         Turns (tables exprs.old ss ds) pools.old (tables exprs.new ss ds) pools.new
         [] ((expr_at at, expr_row e w) ∷ (expr_at row, v) ∷ []) ((expr_at at, node (expr_label kind) (expr_row e v) end end w) ∷ []) }
 {
-    let expr = expr_at(exprs, at);
+    let expr = record_at(exprs, at);
     let inner = take(&mut pools.exprs, exprs);
-    set(
-        exprs,
-        inner,
-        ExprRecord {
-            kind: expr.kind,
-            first: expr.first,
-            next: row,
-        },
-    );
+    set(exprs, inner, ExprRecord { next: row, ..expr });
     set(
         exprs,
         at,
         ExprRecord {
             kind,
             first: inner,
-            next: expr.next,
+            ..expr
         },
     );
 }
@@ -70,17 +63,16 @@ fn negate(exprs: &mut [ExprRecord], pools: &mut Pools, at: u32)
         Turns (tables exprs.old ss ds) pools.old (tables exprs.new ss ds) pools.new
         [] ((expr_at at, expr_row e w) ∷ []) ((expr_at at, expr_row (negated e) w) ∷ []) }
 {
-    let expr = expr_at(exprs, at);
+    let expr = record_at(exprs, at);
     if let ExpressionKind::Not = expr.kind {
-        let inner = expr_at(exprs, expr.first);
+        let inner = record_at(exprs, expr.first);
         give(&mut pools.exprs, exprs, expr.first);
         set(
             exprs,
             at,
             ExprRecord {
-                kind: inner.kind,
-                first: inner.first,
                 next: expr.next,
+                ..inner
             },
         );
         return;
@@ -105,7 +97,7 @@ pub fn minimize_conditional(exprs: &mut [ExprRecord], pools: &mut Pools, test: u
         [] ((expr_at test, expr_row t w) ∷ (expr_at a, expr_row x end) ∷ (expr_at b, expr_row y end) ∷ [])
         ((expr_at test, expr_row (minimize_conditional t x y) w) ∷ []) }
 {
-    link_expr(exprs, a, b);
+    link(exprs, a, b);
     let last = last_item(exprs, test);
     wrap(exprs, pools, last, ExpressionKind::Conditional, a);
 }

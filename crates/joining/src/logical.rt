@@ -1,4 +1,5 @@
 // Logical expressions that associate to the left: `a && b && c`.
+// A routine is lent the tables that it works on and no others: those are known to stay with no clause.
 ghost use Rattle.std.specs.Prelude.{◌≡◌, List, [], ◌∷◌, ◌≤◌};
 ghost use Rattle.script.specs.Tree.{Expr, Exprs};
 ghost use Rattle.records.specs.declared.record.DeclRecord.{DeclRecord as DeclEntry};
@@ -12,7 +13,7 @@ ghost use Rattle.moves.specs.Moved.{Turns};
 ghost use Rattle.joining.specs.Pending.{has_operator, onto_first, pending_then};
 
 use crate::items::{last_item, wrap};
-use moves::{append_row, expr_at, give, set};
+use moves::{append, detach, give, record_at};
 use pool::NOWHERE;
 use records::{ExprRecord, Pools};
 use script::{ExpressionKind, LogicalOperator};
@@ -21,10 +22,7 @@ use script::{ExpressionKind, LogicalOperator};
 fn has_operator(kind: ExpressionKind, operator: LogicalOperator) -> bool
     ensures { result ≡ has_operator operator kind }
 {
-    match kind {
-        ExpressionKind::Logical(other) => operator == other,
-        _ => false,
-    }
+    kind == ExpressionKind::Logical(operator)
 }
 
 // Joins the first of a row of pending expressions: one with the same operator makes way for its two parts, and any other becomes
@@ -41,23 +39,15 @@ fn join_first(
         [] ((expr_at at, expr_row y w) ∷ (expr_at pending, expr_row x (exprs_row xs)) ∷ [])
         ((expr_at at, expr_row (onto_first operator x y) w) ∷ (expr_at result, exprs_row (pending_then operator x xs)) ∷ []) }
 {
-    let expr = expr_at(exprs, pending);
+    let expr = record_at(exprs, pending);
     if has_operator(expr.kind, operator) {
-        append_row(exprs, expr.first, expr.next);
+        append(exprs, expr.first, expr.next);
         give(&mut pools.exprs, exprs, pending);
         return expr.first;
     }
-    set(
-        exprs,
-        pending,
-        ExprRecord {
-            kind: expr.kind,
-            first: expr.first,
-            next: NOWHERE,
-        },
-    );
+    let behind = detach(exprs, pending);
     wrap(exprs, pools, at, ExpressionKind::Logical(operator), pending);
-    expr.next
+    behind
 }
 
 // Joins an expression onto the one at a place, the parts of one with the same operator one after the other.
@@ -73,7 +63,8 @@ fn join_onto(
         [] ((expr_at at, expr_row y w) ∷ (expr_at b, expr_row x end) ∷ []) ((expr_at at, expr_row (join_onto operator x y) w) ∷ []) }
 {
     let mut pending = b;
-    for _i in 0..exprs.len() {
+    // Rows are linked by numbers: as many turns as there are records are more than are pending.
+    for _ in 0..exprs.len() {
         if pending == NOWHERE {
             return;
         }

@@ -1,4 +1,5 @@
 // Sequences: `a, b`.
+// A routine is lent the tables that it works on and no others: those are known to stay with no clause.
 ghost use Rattle.std.specs.Prelude.{List, [], ◌∷◌, ◌≤◌};
 ghost use Rattle.script.specs.Tree.{Expr};
 ghost use Rattle.records.specs.declared.record.DeclRecord.{DeclRecord as DeclEntry};
@@ -10,7 +11,8 @@ ghost use Rattle.records.specs.Rows.{end};
 ghost use Rattle.rules.specs.Expressions.{join_sequence};
 ghost use Rattle.moves.specs.Moved.{Turns};
 
-use moves::{append_row, expr_at, link_expr, set, take};
+use crate::values::make;
+use moves::{append, link, record_at, set};
 use pool::NOWHERE;
 use records::{ExprRecord, Pools};
 use script::ExpressionKind;
@@ -21,14 +23,14 @@ pub fn join_sequence(exprs: &mut [ExprRecord], pools: &mut Pools, a: u32, b: u32
         Turns (tables exprs.old ss ds) pools.old (tables exprs.new ss ds) pools.new
         [] ((expr_at a, expr_row x end) ∷ (expr_at b, expr_row y end) ∷ []) ((expr_at result, expr_row (join_sequence x y) end) ∷ []) }
 {
-    let first = expr_at(exprs, a);
+    let first = record_at(exprs, a);
     if let ExpressionKind::Sequence = first.kind {
-        append_row(exprs, first.first, b);
+        append(exprs, first.first, b);
         return a;
     }
-    let second = expr_at(exprs, b);
+    let second = record_at(exprs, b);
     if let ExpressionKind::Sequence = second.kind {
-        link_expr(exprs, a, second.first);
+        link(exprs, a, second.first);
         set(
             exprs,
             b,
@@ -40,16 +42,6 @@ pub fn join_sequence(exprs: &mut [ExprRecord], pools: &mut Pools, a: u32, b: u32
         );
         return b;
     }
-    link_expr(exprs, a, b);
-    let at = take(&mut pools.exprs, exprs);
-    set(
-        exprs,
-        at,
-        ExprRecord {
-            kind: ExpressionKind::Sequence,
-            first: a,
-            next: NOWHERE,
-        },
-    );
-    at
+    link(exprs, a, b);
+    make(exprs, pools, ExpressionKind::Sequence, a)
 }

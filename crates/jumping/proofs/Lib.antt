@@ -1,8 +1,7 @@
 pub mod Telling
 pub mod Fits
-pub mod OneThrow
+pub mod Optional
+pub mod OneJump
 pub mod Looping
 pub mod WorkedThrow
-pub mod Optional
-pub mod OneReturn
 pub mod WorkedReturn

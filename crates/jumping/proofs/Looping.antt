@@ -1,5 +1,6 @@
 -- The turns of a merger one after another.
 use Rattle.std.proofs.Common.{◌≡◌, ℕ, ◌+◌, ◌≤◌, List, [], ◌∷◌, length, sym, refl, ◌∙◌, subst, arith}
+use Rattle.std.specs.declared.ops.ControlFlow.TheVariants.{Break, Continue}
 use Rattle.script.specs.Sound.{records_stmts}
 use Rattle.script.specs.Tree.{Stmts, stmt_then}
 use Rattle.records.specs.declared.record.Pools.{Pools}
@@ -9,24 +10,24 @@ use Rattle.records.specs.Owned.{Owns, Root}
 use Rattle.moves.specs.Moved.{Moved, Turns}
 use Rattle.moves.proofs.Frames.{kept_both, kept_others, stays}
 use Rattle.joining.specs.Needs.{EnoughFor}
-use Rattle.jumping.specs.declared.arguments.Turn.TheVariants.{Again, Done}
 use Rattle.merging.specs.declared.worked.Worked.{Worked}
-use Rattle.jumping.specs.Going.{Ends, GoesOn, Jump, TakesTurn, in_hand}
+use Rattle.jumping.specs.Going.{Ends, GoesOn, Rule, TakesTurn, in_hand}
 use Rattle.jumping.proofs.Fits.{results_fit_beside}
 
 -- after i turns: what there was at first goes on to the same
-pub record Looped {A : Type 0} (j : Jump A) (h h' : Heap) (p' : Pools) (loose : List Place) (rest : List Root) (w : Worked) (whole : Stmts) (i : ℕ) : Type 0 where
+pub record Looped {A : Type 0} (j : Rule A) (h h' : Heap) (p' : Pools) (loose : List Place) (rest : List Root) (w : Worked) (whole : Stmts)
+    (i : ℕ) : Type 0 where
   pub bound : ℕ
   pub going : GoesOn j h h' p' loose rest w whole bound
   pub left : bound + i ≤ length h'.stmts
 
-abbrev pub Loops : {A : Type 0} → Jump A → Heap → Pools → Heap → Pools → ℕ → ℕ → ℕ → Worked → ℕ → Type 0
+abbrev pub Loops : {A : Type 0} → Rule A → Heap → Pools → Heap → Pools → ℕ → ℕ → ℕ → Worked → ℕ → Type 0
 Loops {A} j h p h' p' at value results w i =
     (a : A) (r : Stmts) → EnoughFor (j.stmt a) r p → (loose : List Place) (rest : List Root)
     → Owns h p (stmt_at at ∷ loose) (in_hand j value results a r rest)
     → Looped j h h' p' (stmt_at at ∷ loose) rest w (j.loop r a) i
 
-pub loop_starts : {A : Type 0} (j : Jump A) {h : Heap} {p : Pools} {at value results : ℕ}
+pub loop_starts : {A : Type 0} (j : Rule A) {h : Heap} {p : Pools} {at value results : ℕ}
     → Loops j h p h p at value results (record { target = value; results = results }) 0
 loop_starts j a r g loose rest o =
     let f = results_fit_beside r o in
@@ -36,10 +37,10 @@ loop_starts j a r g loose rest o =
       left = omega arith;
     }
 
-module _ {A : Type 0} (j : Jump A) {h h₁ h₂ : Heap} {p p₁ p₂ : Pools} {at value results i : ℕ} {w w₁ : Worked} where
+module _ {A : Type 0} (j : Rule A) {h h₁ h₂ : Heap} {p p₁ p₂ : Pools} {at value results i : ℕ} {w w₁ : Worked} where
   -- one turn more
   pub loop_goes : length h₂.stmts ≡ length h₁.stmts → Loops j h p h₁ p₁ at value results w i
-      → TakesTurn j h₁ p₁ h₂ p₂ w.target w.results (Again w₁) → Loops j h p h₂ p₂ at value results w₁ (i + 1)
+      → TakesTurn j h₁ p₁ h₂ p₂ w.target w.results (Continue w₁) → Loops j h p h₂ p₂ at value results w₁ (i + 1)
   loop_goes k inv turn a r g loose rest o =
       let l = inv a r g loose rest o in
       let n = l.going.here in
@@ -62,7 +63,7 @@ module _ {A : Type 0} (j : Jump A) {h h₁ h₂ : Heap} {p p₁ p₂ : Pools} {a
       }
 
   -- the last turn
-  pub loop_ends : Loops j h p h₁ p₁ at value results w i → TakesTurn j h₁ p₁ h₂ p₂ w.target w.results (Done w₁)
+  pub loop_ends : Loops j h p h₁ p₁ at value results w i → TakesTurn j h₁ p₁ h₂ p₂ w.target w.results (Break w₁)
       → (a : A) (r : Stmts) → EnoughFor (j.stmt a) r p → (loose : List Place) (rest : List Root)
       → Owns h p (stmt_at at ∷ loose) (in_hand j value results a r rest)
       → Ends j h h₂ p₂ (stmt_at at ∷ loose) rest w₁ (j.loop r a)
@@ -79,10 +80,11 @@ module _ {A : Type 0} (j : Jump A) {h h₁ h₂ : Heap} {p p₁ p₂ : Pools} {a
         same = l.going.same ∙ t.same;
       }
 
-module _ {A : Type 0} (j : Jump A) {h h₁ h₂ : Heap} {p₁ p₂ : Pools} {loose : List Place} {rest : List Root} {at res : ℕ} {w : Worked} {whole : Stmts} where
+module _ {A : Type 0} (j : Rule A) {h h₁ h₂ : Heap} {p₁ p₂ : Pools} {loose : List Place} {rest : List Root} {at res : ℕ} {w : Worked} {whole : Stmts} where
   -- the jump becomes the newest result
   pub jump_pushed : Ends j h h₁ p₁ (stmt_at at ∷ loose) rest w whole
-      → ((a : A) (r : Stmts) → Turns h₁ p₁ h₂ p₂ (stmt_at at ∷ []) (in_hand j w.target w.results a r []) ((stmt_at res, stmts_row (stmt_then (j.stmt a) r)) ∷ []))
+      → ((a : A) (r : Stmts)
+      → Turns h₁ p₁ h₂ p₂ (stmt_at at ∷ []) (in_hand j w.target w.results a r []) ((stmt_at res, stmts_row (stmt_then (j.stmt a) r)) ∷ []))
       → Moved h h₂ p₂ loose ((stmt_at res, stmts_row whole) ∷ rest)
   jump_pushed e push =
       let n = e.here in
@@ -93,6 +95,6 @@ module _ {A : Type 0} (j : Jump A) {h h₁ h₂ : Heap} {p₁ p₂ : Pools} {loo
       }
 
 -- as many turns as there are statements are too many
-pub loop_no_more : {A : Type 0} (j : Jump A) {h h₁ : Heap} {p₁ : Pools} {loose : List Place} {rest : List Root} {w : Worked} {whole : Stmts} {i : ℕ}
+pub loop_no_more : {A : Type 0} (j : Rule A) {h h₁ : Heap} {p₁ : Pools} {loose : List Place} {rest : List Root} {w : Worked} {whole : Stmts} {i : ℕ}
     → Looped j h h₁ p₁ loose rest w whole i → length h₁.stmts ≤ i → ⊥
 loop_no_more j l k = let f = l.going.fewer in let b = l.left in omega arith

@@ -1,5 +1,5 @@
 -- An argument that may be missing: its place leads nowhere then.
-use Rattle.std.proofs.Common.{◌≡◌, ℕ, ◌+◌, ◌≤◌, List, [], ◌∷◌, sym, refl, subst, arith}
+use Rattle.std.proofs.Common.{◌≡◌, ℕ, ◌+◌, ◌≤◌, Bool, true, false, not, List, [], ◌∷◌, refl, arith}
 use Rattle.pool.specs.Chain.{nowhere}
 use Rattle.script.specs.Sound.{records_expr, records_optional}
 use Rattle.script.specs.Tree.{Expr, OptionalExpr, absent, number, present, void}
@@ -11,32 +11,34 @@ use Rattle.records.specs.Rows.{At, end}
 use Rattle.records.proofs.Moves.{end_out, pick}
 use Rattle.records.proofs.Tallies.{lengths, records_expr_row, records_optional_row}
 use Rattle.rules.specs.Expressions.{minimize_conditional}
-use Rattle.rules.specs.Holder.{Holder as Holding}
-use Rattle.rules.specs.Returns.{value_or_void_0}
+use Rattle.rules.specs.Returns.{may_merge_return, value_or_void_0}
 use Rattle.moves.specs.Moved.{Moved, Turns}
-use Rattle.moves.proofs.Frames.{arrange, kept_both, kept_others, stays}
+use Rattle.moves.proofs.Frames.{arrange, kept_both, kept_others}
 use Rattle.moves.proofs.Rows.{expr_within}
 use Rattle.moves.proofs.Spared.{spared}
-use Rattle.jumping.specs.declared.returns.Meeting.TheVariants.{Bare, Join, Stop}
-use Rattle.predicates.specs.declared.held.Holder.{Holder}
 use Rattle.predicates.specs.declared.held.Holder.TheVariants.{Body, LoopBlock, OnceBlock, Other}
-use Rattle.predicates.specs.Held.{holder_of}
-use Rattle.jumping.specs.Meet.{meeting}
+use Rattle.jumping.specs.declared.jump.Jump.{Jump}
+use Rattle.jumping.specs.declared.jump.Jump.TheVariants.{Return, Throw}
+use Rattle.jumping.specs.Meet.{held_by}
 
 -- what is there leads somewhere
 pub somewhere : {h : Heap} {i : ℕ} (e : Expr) → Short h → At h (expr_at i) (expr_row e end) → i ≡ nowhere → ⊥
 somewhere {h} {i} e s a n = let w = expr_within h i e end a in let l = s.exprs in omega arith
+
+-- and what is not does not
+pub absent_there : {h : Heap} {i : ℕ} (v : OptionalExpr) → Short h → At h (expr_at i) (optional_row v end) → i ≡ nowhere → v ≡ absent
+absent_there absent s a n = refl
+absent_there (present e) s a n = absurd (somewhere e s a n)
+
+pub nowhere_there : (h : Heap) {i : ℕ} (v : OptionalExpr) → At h (expr_at i) (optional_row v end) → v ≡ absent → i ≡ nowhere
+nowhere_there h absent a n = a
+nowhere_there h (present e) a n = cc
 
 module _ {h h' : Heap} {p p' : Pools} {loose : List Place} {rest : List Root} {i r : ℕ} where
   pub voided : (v : OptionalExpr) → i ≡ nowhere → Turns h p h' p' [] [] ((expr_at r, expr_row (void (number 0)) end) ∷ [])
       → Owns h p loose ((expr_at i, optional_row v end) ∷ rest) → Moved h h' p' loose ((expr_at r, expr_row (value_or_void_0 v) end) ∷ rest)
   voided absent n f o = f loose rest (end_out o)
   voided (present e) n f o = absurd (somewhere e o.short o.held.0 n)
-
-pub valued : {h : Heap} {p : Pools} {loose : List Place} {rest : List Root} {i : ℕ} (v : OptionalExpr) → (i ≡ nowhere → ⊥)
-    → Owns h p loose ((expr_at i, optional_row v end) ∷ rest) → Moved h h p loose ((expr_at i, expr_row (value_or_void_0 v) end) ∷ rest)
-valued absent n o = absurd (n o.held.0)
-valued (present e) n o = stays o
 
 -- at most two records more
 pub void_records : (v : OptionalExpr) → records_expr (value_or_void_0 v) ≤ 2 + records_optional v
@@ -51,7 +53,8 @@ module _ {h h₁ h₂ h₃ : Heap} {p p₁ p₂ p₃ : Pools} {loose : List Plac
       → ((e₁ e₂ : Expr) → 1 ≤ p₂.exprs.count
       → Turns h₂ p₂ h₃ p₃ (stmt_at inner ∷ stmt_at at ∷ []) ((expr_at test, expr_row t end) ∷ (expr_at x, expr_row e₁ end) ∷ (expr_at y, expr_row e₂ end) ∷ [])
       ((expr_at test, expr_row (minimize_conditional t e₁ e₂) end) ∷ []))
-      → Owns h p (stmt_at inner ∷ stmt_at at ∷ loose) ((expr_at test, expr_row t end) ∷ (expr_at a, optional_row v end) ∷ (expr_at b, optional_row u end) ∷ rest)
+      → Owns h p (stmt_at inner ∷ stmt_at at ∷ loose)
+      ((expr_at test, expr_row t end) ∷ (expr_at a, optional_row v end) ∷ (expr_at b, optional_row u end) ∷ rest)
       → Moved h h₃ p₃ loose ((expr_at test, expr_row (minimize_conditional t (value_or_void_0 v) (value_or_void_0 u)) end) ∷ rest)
   values_joined t v u n k₁ k₂ first second third o =
       let l : List Place = stmt_at inner ∷ stmt_at at ∷ loose in
@@ -74,25 +77,13 @@ module _ {h h₁ h₂ h₃ : Heap} {p p₁ p₂ p₃ : Pools} {loose : List Plac
       let m₃ = third (value_or_void_0 v) (value_or_void_0 u) n₂ loose rest (arrange (2 ∷ 1 ∷ 0 ∷ []) m₂.owned) in
       record { owned = m₃.owned; kept = kept_both (kept_others (kept_others (kept_both m₁.kept m₂.kept))) m₃.kept }
 
--- how two returns meet, by the places of their arguments
-module _ {h : Heap} (a b : ℕ) (s : Short h) where
-  pub bare_there : (holder : Holding) (v u : OptionalExpr) → At h (expr_at a) (optional_row v end) → At h (expr_at b) (optional_row u end)
-      → a ≡ nowhere → b ≡ nowhere → Bare ≡ meeting holder v u
-  bare_there holder absent absent x y n m = refl
-  bare_there holder absent (present e) x y n m = absurd (somewhere e s y m)
-  bare_there holder (present e) u x y n m = absurd (somewhere e s x n)
+-- may a bare jump take in the one before it
+pub bare_body : (j : Jump) (b : Bool) → j ≡ Return Body → b ≡ true → not b ≡ may_merge_return (held_by j) absent
+bare_body j b e f = rw (e, f) refl
 
-  pub body_there : (holder : Holder) (v u : OptionalExpr) → At h (expr_at a) (optional_row v end) → At h (expr_at b) (optional_row u end)
-      → (a ≡ nowhere → ⊥) → b ≡ nowhere → holder ≡ Body → Stop ≡ meeting (holder_of holder) v u
-  body_there holder absent u x y n m k = absurd (n x)
-  body_there holder (present e) (present f) x y n m k = absurd (somewhere f s y m)
-  body_there holder (present e) absent x y n m k = subst (λ (c : Holder). Stop ≡ meeting (holder_of c) (present e) absent) (sym k) refl
-
-  pub other_there : (holder : Holder) (v u : OptionalExpr) → At h (expr_at a) (optional_row v end) → At h (expr_at b) (optional_row u end)
-      → (a ≡ nowhere → ⊥) → b ≡ nowhere → (holder ≡ Body → ⊥) → Join ≡ meeting (holder_of holder) v u
-  other_there holder absent u x y n m k = absurd (n x)
-  other_there holder (present e) (present f) x y n m k = absurd (somewhere f s y m)
-  other_there Body (present e) absent x y n m k = absurd (k refl)
-  other_there Other (present e) absent x y n m k = refl
-  other_there LoopBlock (present e) absent x y n m k = refl
-  other_there OnceBlock (present e) absent x y n m k = refl
+pub bare_other : (j : Jump) (b : Bool) → (j ≡ Return Body → ⊥) → b ≡ false → not b ≡ may_merge_return (held_by j) absent
+bare_other Throw b n f = rw f refl
+bare_other (Return Body) b n f = absurd (n refl)
+bare_other (Return Other) b n f = rw f refl
+bare_other (Return LoopBlock) b n f = rw f refl
+bare_other (Return OnceBlock) b n f = rw f refl

@@ -21,6 +21,7 @@ use Rattle.moves.proofs.Frames.{kept_both, kept_others, stays}
 use Rattle.moves.proofs.Rows.{expr_fits}
 use Rattle.moves.proofs.Spared.{spared}
 use Rattle.joining.specs.Needs.{EnoughFor}
+use Rattle.jumping.specs.Going.{merged, returns}
 use Rattle.jumping.proofs.Optional.{somewhere}
 use Rattle.jumping.proofs.WorkedThrow.{worked_roots}
 
@@ -115,6 +116,10 @@ module _ {h h' : Heap} {p' : Pools} {loose : List Place} {rest : List Root} {res
   left_pushed q m e r n m₁ =
       subst (λ (b : Bool). Moved h h' p' loose ((stmt_at results', stmts_row (cond b r (push_new_expression_stmt_to_result q e r))) ∷ rest)) n m₁
 
+merged_returns : (q : Bool) (holder : Holder) (v : OptionalExpr) (r : Stmts) → merged (returns holder) q v r ≡ merge_returns q holder v r
+merged_returns true holder v r = refl
+merged_returns false holder v r = refl
+
 module _ {h h₁ h₂ h₃ : Heap} {p p₁ p₂ p₃ : Pools} {loose : List Place} {rest : List Root} {at value results value₁ results₁ value₂ results₂ res : ℕ} where
   -- the three parts of the rule one after another
   pub return_handled : (q : Bool) (m : Meaning) (holder : Holder) (v : OptionalExpr) (r : Stmts) → lengths h ≡ lengths h₁ → lengths h₁ ≡ lengths h₂
@@ -122,7 +127,7 @@ module _ {h h₁ h₂ h₃ : Heap} {p p₁ p₂ p₃ : Pools} {loose : List Plac
       → ((u : OptionalExpr) (x : Stmts) → 1 ≤ p₁.exprs.count → 1 ≤ p₁.stmts.count
       → Turns h₁ p₁ h₂ p₂ [] (worked_roots value₁ results₁ (unworked u x) []) (worked_roots value₂ results₂ (drop_undefined_argument q m u x) []))
       → ((u : OptionalExpr) (x : Stmts) → EnoughFor (return_of u) x p₂
-      → Turns h₂ p₂ h₃ p₃ (stmt_at at ∷ []) (worked_roots value₂ results₂ (unworked u x) []) ((stmt_at res, stmts_row (merge_returns q holder u x)) ∷ []))
+      → Turns h₂ p₂ h₃ p₃ (stmt_at at ∷ []) (worked_roots value₂ results₂ (unworked u x) []) ((stmt_at res, stmts_row (merged (returns holder) q u x)) ∷ []))
       → EnoughFor (return_of v) r p → Owns h p (stmt_at at ∷ loose) (worked_roots value results (unworked v r) rest)
       → Moved h h₃ p₃ loose ((stmt_at res, stmts_row (handle_return_statement q m holder v r)) ∷ rest)
   return_handled q m holder v r k₁ k₂ first second third g o =
@@ -136,4 +141,7 @@ module _ {h h₁ h₂ h₃ : Heap} {p p₁ p₂ p₃ : Pools} {loose : List Plac
       let m₂ = second x.target x.results (omega arith) (omega arith) l rest m₁.owned in
       let g₂ = still_enough x y k₂ (drop_undefined_argument_budget q m x.target x.results) g₁ m₁.owned m₂.owned in
       let m₃ = third y.target y.results g₂ loose rest m₂.owned in
-      record { owned = m₃.owned; kept = kept_both (kept_others (kept_both m₁.kept m₂.kept)) m₃.kept }
+      record {
+        owned = subst (λ (u : Stmts). Owns h₃ p₃ loose ((stmt_at res, stmts_row u) ∷ rest)) (merged_returns q holder y.target y.results) m₃.owned;
+        kept = kept_both (kept_others (kept_both m₁.kept m₂.kept)) m₃.kept;
+      }

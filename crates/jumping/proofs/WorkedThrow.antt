@@ -1,5 +1,5 @@
 -- An argument that the rules have worked on, with the results before it.
-use Rattle.std.proofs.Common.{◌≡◌, ℕ, ◌≤◌, Bool, false, List, [], ◌∷◌, sym, refl, ap, subst, arith}
+use Rattle.std.proofs.Common.{◌≡◌, ℕ, ◌≤◌, Bool, true, false, List, [], ◌∷◌, sym, refl, ap, ◌∙◌, subst, arith}
 use Rattle.script.specs.Sound.{records_expr, records_optional}
 use Rattle.script.specs.Tree.{Expr, OptionalExpr, Stmts, absent, present, throw}
 use Rattle.records.specs.declared.record.Pools.{Pools}
@@ -8,7 +8,8 @@ use Rattle.records.specs.Heap.{Heap, Place, expr_at, stmt_at}
 use Rattle.records.specs.Owned.{Owns, Root}
 use Rattle.records.specs.Rows.{end}
 use Rattle.records.proofs.Tallies.{lengths, records_expr_row, records_optional_row, records_stmts_row}
-use Rattle.rules.specs.Merging.{Worked, merge_last_expression_into_sequence, merge_leading_assignments_to_declaration, next_work, last_expression?, merge_last_expression_as, LastExpression?, last_expression, no_last_expression}
+use Rattle.rules.specs.Merging.{Worked, merge_last_expression_into_sequence, merge_leading_assignments_to_declaration, next_work}
+use Rattle.rules.specs.Merging.{LastExpression?, last_expression, last_expression?, merge_last_expression_as, no_last_expression}
 use Rattle.rules.specs.Returns.{value_or_void_0}
 use Rattle.rules.specs.Throws.{handle_throw_statement, merge_throws, worked_throw_argument}
 use Rattle.rules.proofs.BudgetMerging.{merged_budget, merged_value}
@@ -16,7 +17,7 @@ use Rattle.moves.specs.Moved.{Moved, Turns}
 use Rattle.moves.proofs.Frames.{kept_both, kept_others}
 use Rattle.moves.proofs.Spared.{spared}
 use Rattle.joining.specs.Needs.{EnoughFor}
-use Rattle.jumping.specs.Going.{in_hand, throws}
+use Rattle.jumping.specs.Going.{in_hand, merged, throws}
 
 -- the roots of an argument and results that may be those of a rule's `Worked`
 abbrev pub worked_roots : ℕ → ℕ → Worked → List Root → List Root
@@ -42,9 +43,11 @@ pub record ThrowsWorked (q : Bool) (e : Expr) (r : Stmts) (h h' : Heap) (p' : Po
 
 module _ {h h₁ h₂ : Heap} {p p₁ p₂ : Pools} {loose : List Place} {rest : List Root} {value results value₁ results₁ value₂ results₂ : ℕ} where
   pub throw_worked : (q : Bool) (e : Expr) (r : Stmts) → lengths h ≡ lengths h₂
-      → (1 ≤ p.exprs.count → Turns h p h₁ p₁ [] (in_hand throws value results e r []) (worked_roots value₁ results₁ (merge_last_expression_into_sequence q e r) []))
+      → (1 ≤ p.exprs.count
+      → Turns h p h₁ p₁ [] (in_hand throws value results e r []) (worked_roots value₁ results₁ (merge_last_expression_into_sequence q e r) []))
       → ((e₁ : Expr) (r₁ : Stmts)
-      → Turns h₁ p₁ h₂ p₂ [] (in_hand throws value₁ results₁ e₁ r₁ []) (worked_roots value₂ results₂ (merge_leading_assignments_to_declaration false e₁ r₁) []))
+      → Turns h₁ p₁ h₂ p₂ [] (in_hand throws value₁ results₁ e₁ r₁ [])
+      (worked_roots value₂ results₂ (merge_leading_assignments_to_declaration false e₁ r₁) []))
       → EnoughFor (throw e) r p → Owns h p loose (in_hand throws value results e r rest)
       → ThrowsWorked q e r h h₂ p₂ loose rest value₂ results₂
   throw_worked q e r k first second g o =
@@ -72,21 +75,27 @@ module _ {h h₁ h₂ : Heap} {p p₁ p₂ : Pools} {loose : List Place} {rest :
         same = there.1;
         enough = record { exprs = omega arith; stmts = omega arith; decls = omega arith };
         moved = record {
-          owned = subst (λ (u : OptionalExpr). Owns h₂ p₂ loose ((expr_at value₂, optional_row u end) ∷ (stmt_at results₂, stmts_row y.results) ∷ rest)) there.1 o₂;
+          owned = subst (λ (u : OptionalExpr). Owns h₂ p₂ loose ((expr_at value₂, optional_row u end) ∷ (stmt_at results₂, stmts_row y.results) ∷ rest))
+              there.1 o₂;
           kept = kept_both m₁.kept m₂.kept;
         };
       }
+
+merged_throws : (q : Bool) (e : Expr) (r : Stmts) → merged throws q e r ≡ merge_throws q e r
+merged_throws true e r = refl
+merged_throws false e r = refl
 
 -- the worked argument and results, merged
 module _ {h h₂ h₃ : Heap} {p₂ p₃ : Pools} {loose : List Place} {rest : List Root} {at value results res : ℕ} where
   pub throw_handled : (q : Bool) (e : Expr) (r : Stmts) → ThrowsWorked q e r h h₂ p₂ (stmt_at at ∷ loose) rest value results
       → ((e₁ : Expr) (r₁ : Stmts) → EnoughFor (throw e₁) r₁ p₂
-      → Turns h₂ p₂ h₃ p₃ (stmt_at at ∷ []) (in_hand throws value results e₁ r₁ []) ((stmt_at res, stmts_row (merge_throws q e₁ r₁)) ∷ []))
+      → Turns h₂ p₂ h₃ p₃ (stmt_at at ∷ []) (in_hand throws value results e₁ r₁ []) ((stmt_at res, stmts_row (merged throws q e₁ r₁)) ∷ []))
       → Moved h h₃ p₃ loose ((stmt_at res, stmts_row (handle_throw_statement q e r)) ∷ rest)
   throw_handled q e r w merge =
       let m = merge w.argument (worked_throw_argument q e r).results w.enough loose rest w.moved.owned in
       record {
-        owned = subst (λ (u : OptionalExpr). Owns h₃ p₃ loose ((stmt_at res, stmts_row (merge_throws q (value_or_void_0 u) (worked_throw_argument q e r).results)) ∷ rest))
-            (sym w.same) m.owned;
+        owned = subst (λ (u : Stmts). Owns h₃ p₃ loose ((stmt_at res, stmts_row u) ∷ rest))
+            (merged_throws q w.argument (worked_throw_argument q e r).results
+            ∙ ap (λ (u : OptionalExpr). merge_throws q (value_or_void_0 u) (worked_throw_argument q e r).results) (sym w.same)) m.owned;
         kept = kept_both (kept_others w.moved.kept) m.kept;
       }

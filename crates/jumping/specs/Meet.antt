@@ -1,7 +1,7 @@
--- What becomes of `if (t) return a; return b`.
-use Rattle.std.specs.Prelude.{◌≡◌, ℕ, ◌≤◌, cond, List, length}
+-- May a jump take in the one before it.
+use Rattle.std.specs.Prelude.{◌≡◌, ℕ, ◌≤◌, Bool, List, length}
 use Rattle.script.specs.Sound.{records_optional}
-use Rattle.script.specs.Tree.{OptionalExpr, absent, present}
+use Rattle.script.specs.Tree.{OptionalExpr}
 use Rattle.records.specs.declared.record.DeclRecord.{DeclRecord}
 use Rattle.records.specs.declared.record.ExprRecord.{ExprRecord}
 use Rattle.records.specs.declared.record.StmtRecord.{StmtRecord}
@@ -10,21 +10,19 @@ use Rattle.records.specs.Heap.{expr_at}
 use Rattle.records.specs.Owned.{Short}
 use Rattle.records.specs.Readable.{tables}
 use Rattle.records.specs.Rows.{At, end}
-use Rattle.rules.specs.Holder.{Holder}
+use Rattle.rules.specs.Holder.{Holder, other_list}
 use Rattle.rules.specs.Returns.{may_merge_return}
-use Rattle.jumping.specs.declared.returns.Meeting.{Meeting}
-use Rattle.jumping.specs.declared.returns.Meeting.TheVariants.{Bare, Join, Stop}
+use Rattle.predicates.specs.Held.{holder_of}
+use Rattle.jumping.specs.declared.jump.Jump.{Jump}
+use Rattle.jumping.specs.declared.jump.Jump.TheVariants.{Return, Throw}
 
--- the arguments a and b
-abbrev pub meeting : Holder → OptionalExpr → OptionalExpr → Meeting
-meeting holder absent absent = Bare
-meeting holder absent (present e) = cond (may_merge_return holder (present e)) Join Stop
-meeting holder (present x) absent = cond (may_merge_return holder absent) Join Stop
-meeting holder (present x) (present e) = cond (may_merge_return holder (present e)) Join Stop
+-- what holds the list as far as it matters to the jump: to a throw, as to a return with an argument, it does not
+abbrev pub held_by : Jump → Holder
+held_by Throw = other_list
+held_by (Return holder) = holder_of holder
 
--- the answer for the arguments at two places
-abbrev pub TellsMeeting : Holder → List ExprRecord → ℕ → ℕ → Meeting → Type 0
-TellsMeeting holder exprs a b m =
-    (ss : List StmtRecord) (ds : List DeclRecord) (v u : OptionalExpr) → Short (tables exprs ss ds)
-    → At (tables exprs ss ds) (expr_at a) (optional_row v end) → At (tables exprs ss ds) (expr_at b) (optional_row u end)
-    → records_optional u ≤ length exprs → m ≡ meeting holder v u
+-- the answer for the argument at a place
+abbrev pub TellsMayMerge : Jump → List ExprRecord → ℕ → Bool → Type 0
+TellsMayMerge jump exprs value b =
+    (ss : List StmtRecord) (ds : List DeclRecord) (v : OptionalExpr) → Short (tables exprs ss ds)
+    → At (tables exprs ss ds) (expr_at value) (optional_row v end) → records_optional v ≤ length exprs → b ≡ may_merge_return (held_by jump) v

@@ -2,6 +2,8 @@
 #![tactic(auto)]
 
 mod arguments;
+mod jump;
+mod merger;
 mod newest;
 mod returns;
 mod throws;

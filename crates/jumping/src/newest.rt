@@ -1,36 +1,20 @@
 // What the newest result is.
-ghost use Rattle.moves.specs.Read.{TellsStmts};
-ghost use Rattle.jumping.specs.Newest.{newest_if_return, newest_if_throw};
+ghost use Rattle.jumping.specs.Newest.{TellsIfJump, kind_of};
 
-use moves::stmt_at;
+use crate::jump::Jump;
+use moves::record_at;
 use pool::NOWHERE;
 use records::StmtRecord;
 use script::StatementKind;
 
-// Whether the newest result is `if (t) throw e`, without an alternate.
-pub fn is_if_throw(stmts: &[StmtRecord], results: u32) -> bool
-    ensures { TellsStmts newest_if_throw stmts.now results result }
+// Whether the newest result is an `if` without an alternate that holds the same jump: `if (t) throw e`, `if (t) return e` or `if (t) return`.
+pub fn is_if_jump(jump: Jump, stmts: &[StmtRecord], results: u32) -> bool
+    ensures { TellsIfJump (kind_of jump) stmts.now results result }
 {
-    let last = stmt_at(stmts, results);
-    if let StatementKind::If = last.kind {
-        let inner = stmt_at(stmts, last.stmts);
-        if let StatementKind::Throw = inner.kind {
-            return inner.next == NOWHERE;
-        }
+    let last = record_at(stmts, results);
+    if last.kind != StatementKind::If {
+        return false;
     }
-    false
-}
-
-// Whether the newest result is `if (t) return` or `if (t) return e`, without an alternate.
-pub fn is_if_return(stmts: &[StmtRecord], results: u32) -> bool
-    ensures { TellsStmts newest_if_return stmts.now results result }
-{
-    let last = stmt_at(stmts, results);
-    if let StatementKind::If = last.kind {
-        let inner = stmt_at(stmts, last.stmts);
-        if let StatementKind::Return = inner.kind {
-            return inner.next == NOWHERE;
-        }
-    }
-    false
+    let inner = record_at(stmts, last.stmts);
+    inner.kind == jump.kind() && inner.next == NOWHERE
 }

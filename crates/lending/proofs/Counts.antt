@@ -16,10 +16,10 @@ length_from_is n (node l x y z w) = let e = length_from_is (n + 1) w in omega ar
 pub length_is : (x : Row) → length_from 0 x ≡ row_length x
 length_is x = let e = length_from_is 0 x in omega arith
 
-same_decls : {s t : DeclSurvey} → s.count ≡ t.count → s.bare ≡ t.bare → s ≡ t
+pub same_decls : {s t : DeclSurvey} → s.count ≡ t.count → s.bare ≡ t.bare → s ≡ t
 same_decls a b = λ i. record { count = a i; bare = b i }
 
-same_stmts : {s t : StmtSurvey} → s.count ≡ t.count → s.cases ≡ t.cases → s.defaults ≡ t.defaults → s.lexicals ≡ t.lexicals → s ≡ t
+pub same_stmts : {s t : StmtSurvey} → s.count ≡ t.count → s.cases ≡ t.cases → s.defaults ≡ t.defaults → s.lexicals ≡ t.lexicals → s ≡ t
 same_stmts a b c d = λ i. record { count = a i; cases = b i; defaults = c i; lexicals = d i }
 
 abbrev decls_added : DeclSurvey → DeclSurvey → DeclSurvey

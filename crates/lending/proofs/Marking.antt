@@ -1,5 +1,5 @@
 -- Marking: a heap holds one row at a place at most, and the rows of a record are found or refuted one after another.
-use Rattle.std.proofs.Common.{◌≡◌, ℕ, zero, suc, ◌+◌, ◌<◌, ◌≤◌, true, List, [], ◌∷◌, length, get_or, set, replicate, sym, refl, ap, ◌∙◌, ⊎_elim, arith, get_or-set_other, get_or-set_same}
+use Rattle.std.proofs.Common.{◌≡◌, ℕ, zero, suc, ◌+◌, ◌<◌, ◌≤◌, true, List, [], ◌∷◌, length, get_or, set, sym, refl, ap, ◌∙◌, ⊎_elim, arith, get_or-set_other, get_or-set_same}
 use Rattle.std.proofs.lemmas.Bool.{cases_eq}
 use Rattle.pool.specs.Chain.{same_place}
 use Rattle.pool.proofs.Chains.{same_place_self, same_place_same, same_place_other}
@@ -41,8 +41,8 @@ unmarked_set (x ∷ xs) zero h z = omega arith
 unmarked_set (x ∷ xs) (suc i) h z = let e = unmarked_set xs i (omega arith) z in omega arith
 
 -- a claim leaves one place fewer unmarked
-pub claimed_unmarked : (m : List ℕ) (i n : ℕ) (m' : List ℕ) → length m ≡ n → Claims true m i n m' → unmarked m' + 1 ≡ unmarked m
-claimed_unmarked m i n m' e c = let h : i < length m = let a = c.0 in omega arith in rw c.2 (unmarked_set m i h c.1)
+pub claimed_unmarked : (m : List ℕ) (i : ℕ) (m' : List ℕ) → Claims true m i (length m) m' → unmarked m' + 1 ≡ unmarked m
+claimed_unmarked m i m' c = rw c.2 (unmarked_set m i c.0 c.1)
 
 pub unmarked_length : (m : List ℕ) → unmarked m ≤ length m
 unmarked_length [] = omega arith
@@ -149,9 +149,3 @@ module _ {h : Heap} (short : Short h) {m₀ : Place → ℕ} {kx ky kz kw : Plac
         module _ {m₄ : Place → ℕ} {w₁ : Row} (fw : Found m₃ h kw m₄ w₁) where
           pub next_same : w₁ ≡ w
           next_same = at_same short kw w₁ w fw.held f.next
-
--- marks that are all 0
-pub getD_none : (n k : ℕ) → get_or {A = ℕ} (replicate n 0) k 0 ≡ 0
-getD_none zero k = refl
-getD_none (suc n) zero = refl
-getD_none (suc n) (suc k) = getD_none n k

@@ -1,16 +1,12 @@
 -- Marking a row of expressions and a row of declarators, and the spares of each table.
-use Rattle.std.proofs.Common.{◌≡◌, ℕ, ◌+◌, Bool, true, false, List, Some, None, Option, ap, arith}
+use Rattle.std.proofs.Common.{◌≡◌, ℕ, ◌+◌, Bool, true, false, List, Some, None, Option, sym, ap, subst, arith}
 use Rattle.records.specs.declared.record.Pools.{Pools}
-use Rattle.records.specs.declared.record.ExprRecord.{ExprRecord}
-use Rattle.records.specs.declared.record.StmtRecord.{StmtRecord}
-use Rattle.records.specs.declared.record.DeclRecord.{DeclRecord}
 use Rattle.shapes.specs.declared.rule.DeclSurvey.{DeclSurvey}
 use Rattle.lending.specs.declared.check.Parts.{Parts}
 use Rattle.records.specs.Heap.{Heap, Place, expr_at, stmt_at, decl_at, expr_links, stmt_links, decl_links, spare}
 use Rattle.records.specs.Rows.{uses}
 use Rattle.records.specs.Owned.{Short}
-use Rattle.records.specs.Readable.{tables}
-use Rattle.lending.specs.Marked.{marks_of, ExprsMarked, DeclsMarked, PartsMarked, PartsFound, no_declarators, ChainFits, ChainFound, ChainMarked, SparesFit, SparesFound, SparesMarked}
+use Rattle.lending.specs.Marked.{marks_of, ExprsMarked, DeclsMarked, PartsMarked, PartsFound, no_declarators, ChainFound, ChainMarked, SparesFound, SparesMarked}
 use Rattle.lending.proofs.Marking.{at_same}
 
 module _ (m : Place → ℕ) (h : Heap) (es ds : ℕ) (m₁ : Place → ℕ) where
@@ -38,24 +34,38 @@ module _ (m : Place → ℕ) (h : Heap) (es ds : ℕ) (m₁ : Place → ℕ) whe
       decls_count = b.3;
     }
 
-module _ (es : List ExprRecord) (ss : List StmtRecord) (ds : List DeclRecord) (p : Pools) (me ms md : List ℕ) where
-  pub spares_exprs : (ChainFits me (expr_links es) p.exprs.head p.exprs.count → ⊥) → SparesFit (marks_of me ms md) (tables es ss ds) p → ⊥
-  spares_exprs refuted f = refuted (record { chain = f.chains.exprs; once = λ k. f.once (expr_at k) })
+module _ (h : Heap) (p : Pools) (me ms md : List ℕ) where
+  -- a table whose spares are no such chain
+  pub unspared_exprs : {v x : Bool} (me' : List ℕ) (m' : Place → ℕ) → v ≡ false → x ≡ false →
+      ChainMarked x me (expr_links h.exprs) p.exprs.head p.exprs.count me' → SparesMarked v (marks_of me ms md) h p m'
+  unspared_exprs {v} {x} me' m' e f n =
+      subst (λ (b : Bool). SparesMarked b (marks_of me ms md) h p m') (sym e)
+      (λ s. subst (λ (b : Bool). ChainMarked b me (expr_links h.exprs) p.exprs.head p.exprs.count me') f n
+      (record { chain = s.chains.exprs; once = λ k. s.once (expr_at k) }))
 
-  pub spares_stmts : (ChainFits ms (stmt_links ss) p.stmts.head p.stmts.count → ⊥) → SparesFit (marks_of me ms md) (tables es ss ds) p → ⊥
-  spares_stmts refuted f = refuted (record { chain = f.chains.stmts; once = λ k. f.once (stmt_at k) })
+  pub unspared_stmts : {v x : Bool} (ms' : List ℕ) (m' : Place → ℕ) → v ≡ false → x ≡ false →
+      ChainMarked x ms (stmt_links h.stmts) p.stmts.head p.stmts.count ms' → SparesMarked v (marks_of me ms md) h p m'
+  unspared_stmts {v} {x} ms' m' e f n =
+      subst (λ (b : Bool). SparesMarked b (marks_of me ms md) h p m') (sym e)
+      (λ s. subst (λ (b : Bool). ChainMarked b ms (stmt_links h.stmts) p.stmts.head p.stmts.count ms') f n
+      (record { chain = s.chains.stmts; once = λ k. s.once (stmt_at k) }))
 
-  pub spares_decls : (ChainFits md (decl_links ds) p.decls.head p.decls.count → ⊥) → SparesFit (marks_of me ms md) (tables es ss ds) p → ⊥
-  spares_decls refuted f = refuted (record { chain = f.chains.decls; once = λ k. f.once (decl_at k) })
-
-  pub spares_found : (me' ms' md' : List ℕ) → ChainFound me (expr_links es) p.exprs.head p.exprs.count me' → ChainFound ms (stmt_links ss) p.stmts.head p.stmts.count ms' → ChainFound md (decl_links ds) p.decls.head p.decls.count md' → SparesFound (marks_of me ms md) (tables es ss ds) p (marks_of me' ms' md')
+  spares_found : (me' ms' md' : List ℕ) → ChainFound me (expr_links h.exprs) p.exprs.head p.exprs.count me' →
+      ChainFound ms (stmt_links h.stmts) p.stmts.head p.stmts.count ms' → ChainFound md (decl_links h.decls) p.decls.head p.decls.count md' →
+      SparesFound (marks_of me ms md) h p (marks_of me' ms' md')
   spares_found me' ms' md' a b c = record { chains = record { exprs = a.chain; stmts = b.chain; decls = c.chain }; met = met }
     where
-      met : (q : Place) → marks_of me' ms' md' q ≡ marks_of me ms md q + spare q (tables es ss ds) p
+      met : (q : Place) → marks_of me' ms' md' q ≡ marks_of me ms md q + spare q h p
       met (expr_at k) = a.met k
       met (stmt_at k) = b.met k
       met (decl_at k) = c.met k
 
-  pub spares_marked : (b : Bool) (me' ms' md' : List ℕ) → ChainFound me (expr_links es) p.exprs.head p.exprs.count me' → ChainFound ms (stmt_links ss) p.stmts.head p.stmts.count ms' → ChainMarked b md (decl_links ds) p.decls.head p.decls.count md' → SparesMarked b (marks_of me ms md) (tables es ss ds) p (marks_of me' ms' md')
-  spares_marked true me' ms' md' x y z = spares_found me' ms' md' x y z
-  spares_marked false me' ms' md' x y z = spares_decls z
+  pub spares_marked : {x y : Bool} (b : Bool) (me' ms' md' : List ℕ) → x ≡ true → y ≡ true →
+      ChainMarked x me (expr_links h.exprs) p.exprs.head p.exprs.count me' → ChainMarked y ms (stmt_links h.stmts) p.stmts.head p.stmts.count ms' →
+      ChainMarked b md (decl_links h.decls) p.decls.head p.decls.count md' → SparesMarked b (marks_of me ms md) h p (marks_of me' ms' md')
+  spares_marked true me' ms' md' e f x y z =
+      spares_found me' ms' md'
+      (subst (λ (b : Bool). ChainMarked b me (expr_links h.exprs) p.exprs.head p.exprs.count me') e x)
+      (subst (λ (b : Bool). ChainMarked b ms (stmt_links h.stmts) p.stmts.head p.stmts.count ms') f y)
+      z
+  spares_marked false me' ms' md' e f x y z = λ s. z (record { chain = s.chains.decls; once = λ k. s.once (decl_at k) })

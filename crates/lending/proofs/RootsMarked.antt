@@ -1,5 +1,5 @@
 -- Marking the rows of a sheet, and what the marks then say of who owns the records.
-use Rattle.std.proofs.Common.{◌≡◌, ℕ, zero, suc, ◌+◌, ◌<◌, ◌≤◌, Bool, true, false, ◌&&◌, ◌⊎◌, List, [], ◌∷◌, ◌++◌, length, get_or, replicate, Some, None, sym, refl, ap, ◌∙◌, subst, inl, inr, ⊎_elim, arith, eq-eqb, eqb-true}
+use Rattle.std.proofs.Common.{◌≡◌, ℕ, zero, suc, ◌+◌, ◌<◌, ◌≤◌, Bool, true, false, ◌⊎◌, List, [], ◌∷◌, ◌++◌, length, get_or, replicate, Some, None, Option, is_some, sym, refl, ap, ◌∙◌, subst, inl, inr, ⊎_elim, arith, eq-eqb, eqb-true}
 use lib.ListN.{length-map}
 use Rattle.std.proofs.lemmas.Bool.{cases_lt}
 use Rattle.pool.specs.Chain.{Chain, places, occurrences}
@@ -16,30 +16,26 @@ use Rattle.records.specs.Heap.{Heap, Place, expr_at, stmt_at, decl_at, cell, Wit
 use Rattle.records.specs.Rows.{Row, end, node, At, uses, row_length}
 use Rattle.records.specs.Owned.{Root, Held, uses_all, Short, Chains, Owns}
 use Rattle.shapes.specs.Shape.{no_survey, survey, decl_survey}
-use Rattle.records.specs.Readable.{tables}
-use Rattle.lending.specs.Marked.{marks_of, PartsMarked, PartsFound, StmtsMarked, told, RootsMarked, AllMarked, Reached, Blank, SparesMarked, RowsHeld, Decides}
+use Rattle.lending.specs.Marked.{marks_of, Sized, PartsMarked, PartsFound, StmtsMarked, told, RootsMarked, AllMarked, Reached, Blank, SparesMarked, RowsHeld, Decides}
+use Rattle.shapes.proofs.Surveys.{both, join}
 use Rattle.lending.proofs.Counts.{length_is, declarators_are, survey_is}
-use Rattle.lending.proofs.Marking.{at_same, getD_none, four_found, exprs_same, decls_same, stmts_fit, stmts_same, next_fit, next_same}
-
-both_true : (a b : Bool) → (a && b) ≡ true → (a ≡ true) × (b ≡ true)
-both_true true b e = (refl, e)
-both_true false b e = let i : ◌≡◌ {A = ℕ} 0 1 = cc in absurd (omega arith)
-
-true_both : {a b : Bool} → a ≡ true → b ≡ true → (a && b) ≡ true
-true_both x y = λ i. x i && y i
+use Rattle.lending.proofs.Marking.{at_same, four_found, exprs_same, decls_same, stmts_fit, stmts_same, next_fit, next_same}
 
 module _ (h : Heap) (short : Short h) (r : Roots) (m m₁ : Place → ℕ) where
-  pub roots_parts : (m' : Place → ℕ) → PartsMarked None m h r.exprs.top r.decls.top m₁ → RootsMarked false m h r m'
-  roots_parts m' no_parts x y z b s f =
-      no_parts x z (record { exprs = f.exprs; decls = f.decls; once = λ q. let a = f.once q in omega arith; exprs_shaped = s.exprs; decls_shaped = s.decls })
+  refuted : {v : Option (Unit {0})} (m' : Place → ℕ) → v ≡ None → RootsMarked false m h r m' → RootsMarked (is_some v) m h r m'
+  refuted m' e = subst (λ (v : Option (Unit {0})). RootsMarked (is_some v) m h r m') (sym e)
+
+  pub roots_parts : {v : Option (Unit {0})} (m' : Place → ℕ) → v ≡ None → PartsMarked None m h r.exprs.top r.decls.top m₁ → RootsMarked (is_some v) m h r m'
+  roots_parts m' e no_parts = refuted m' e (λ x y z b s f.
+      no_parts x z (record { exprs = f.exprs; decls = f.decls; once = λ q. let a = f.once q in omega arith; exprs_shaped = s.exprs; decls_shaped = s.decls }))
 
   module _ (n : Parts) (parts : PartsFound m h r.exprs.top r.decls.top m₁ n) (m₂ : Place → ℕ) where
-    pub roots_items : StmtsMarked None m₁ h r.stmts.top no_survey m₂ → RootsMarked false m h r m₂
-    roots_items no_items x y z b s f = no_items y (stmts_fit short f parts.exprs_found parts.decls_found) s.stmts
+    pub roots_items : {v : Option (Unit {0})} → v ≡ None → StmtsMarked None m₁ h r.stmts.top no_survey m₂ → RootsMarked (is_some v) m h r m₂
+    roots_items e no_items = refuted m₂ e (λ x y z b s f. no_items y (stmts_fit short f parts.exprs_found parts.decls_found) s.stmts)
 
     module _ (i : StmtSurvey) (items : StmtsMarked (Some i) m₁ h r.stmts.top no_survey m₂) (m₃ : Place → ℕ) where
-      pub roots_body : StmtsMarked None m₂ h r.body no_survey m₃ → RootsMarked false m h r m₃
-      roots_body no_body x y z b s f = no_body b (next_fit short f parts.exprs_found parts.decls_found items.1) s.body
+      pub roots_body : {v : Option (Unit {0})} → v ≡ None → StmtsMarked None m₂ h r.body no_survey m₃ → RootsMarked (is_some v) m h r m₃
+      roots_body e no_body = refuted m₃ e (λ x y z b s f. no_body b (next_fit short f parts.exprs_found parts.decls_found items.1) s.body)
 
       module _ (j : StmtSurvey) (body : StmtsMarked (Some j) m₂ h r.body no_survey m₃) where
         ex : n.exprs ≡ row_length parts.exprs
@@ -56,9 +52,9 @@ module _ (h : Heap) (short : Short h) (r : Roots) (m m₁ : Place → ℕ) where
 
         pub roots_told : (b : Bool) → b ≡ told r n i j → RootsMarked b m h r m₃
         roots_told true e =
-            let a = both_true _ _ (sym e) in
-            let c = both_true _ _ a.1 in
-            let d = both_true _ _ c.1 in (
+            let a = both _ _ (sym e) in
+            let c = both _ _ a.1 in
+            let d = both _ _ c.1 in (
               parts.exprs,
               items.0,
               parts.decls,
@@ -84,31 +80,37 @@ module _ (h : Heap) (short : Short h) (r : Roots) (m m₁ : Place → ℕ) where
             let c = eq-eqb n.decls.count r.decls.count (ez ∙ ap (λ v. (decl_survey v).count) sz ∙ s.decls_count) in
             let d = eq-eqb i.count r.stmts.count (ey ∙ ap (λ v. (survey v).count) sy ∙ s.stmts_count) in
             let g = eq-eqb j.cases 0 (eb ∙ ap (λ v. (survey v).cases) sb ∙ s.no_case) in
-            let t : told r n i j ≡ true = true_both a (true_both c (true_both d g)) in
+            let t : told r n i j ≡ true = join _ _ a (join _ _ c (join _ _ d g)) in
             let o : ◌≡◌ {A = Bool} false true = e ∙ t in
             let q : ◌≡◌ {A = ℕ} 0 1 = cc in
             omega arith
 
-module _ (es : List ExprRecord) (ss : List StmtRecord) (ds : List DeclRecord) (me ms md : List ℕ) where
-  pub reached_exprs : AllMarked false me (length es) → Reached false (tables es ss ds) (marks_of me ms md)
-  reached_exprs n f = n (λ k w. f (expr_at k) w)
+module _ {h : Heap} {me ms md : List ℕ} (sized : Sized h me ms md) where
+  -- a table with a record that is not marked
+  pub unreached_exprs : {v x : Bool} → v ≡ false → x ≡ false → AllMarked x me (length me) → Reached v h (marks_of me ms md)
+  unreached_exprs e f n =
+      subst (λ (b : Bool). Reached b h (marks_of me ms md)) (sym e)
+      (λ all. subst (λ (b : Bool). AllMarked b me (length me)) f n (λ k w. all (expr_at k) (let l = sized.exprs in omega arith)))
 
-  pub reached_stmts : AllMarked false ms (length ss) → Reached false (tables es ss ds) (marks_of me ms md)
-  reached_stmts n f = n (λ k w. f (stmt_at k) w)
+  pub unreached_stmts : {v x : Bool} → v ≡ false → x ≡ false → AllMarked x ms (length ms) → Reached v h (marks_of me ms md)
+  unreached_stmts e f n =
+      subst (λ (b : Bool). Reached b h (marks_of me ms md)) (sym e)
+      (λ all. subst (λ (b : Bool). AllMarked b ms (length ms)) f n (λ k w. all (stmt_at k) (let l = sized.stmts in omega arith)))
 
-  pub reached : (b : Bool) → AllMarked true me (length es) → AllMarked true ms (length ss) → AllMarked b md (length ds) → Reached b (tables es ss ds) (marks_of me ms md)
-  reached true x y z = all
+  pub reached : {x y : Bool} (b : Bool) → x ≡ true → y ≡ true → AllMarked x me (length me) → AllMarked y ms (length ms) → AllMarked b md (length md) →
+      Reached b h (marks_of me ms md)
+  reached true e f x y z = all
     where
-      all : (q : Place) → Within (tables es ss ds) q → marks_of me ms md q ≡ 1
-      all (expr_at k) w = x k w
-      all (stmt_at k) w = y k w
-      all (decl_at k) w = z k w
-  reached false x y z = λ f. z (λ k w. f (decl_at k) w)
+      all : (q : Place) → Within h q → marks_of me ms md q ≡ 1
+      all (expr_at k) w = subst (λ (b : Bool). AllMarked b me (length me)) e x k (let l = sized.exprs in omega arith)
+      all (stmt_at k) w = subst (λ (b : Bool). AllMarked b ms (length ms)) f y k (let l = sized.stmts in omega arith)
+      all (decl_at k) w = z k (let l = sized.decls in omega arith)
+  reached false e f x y z = λ all. z (λ k w. all (decl_at k) (let l = sized.decls in omega arith))
 
-  pub blank_marks : Blank me → Blank ms → Blank md → (q : Place) → marks_of me ms md q ≡ 0
-  blank_marks x y z (expr_at k) = x k
-  blank_marks x y z (stmt_at k) = y k
-  blank_marks x y z (decl_at k) = z k
+pub blank_marks : (me ms md : List ℕ) → Blank me → Blank ms → Blank md → (q : Place) → marks_of me ms md q ≡ 0
+blank_marks me ms md x y z (expr_at k) = x k
+blank_marks me ms md x y z (stmt_at k) = y k
+blank_marks me ms md x y z (decl_at k) = z k
 
 -- no record outside the tables is used
 within_or : (h : Heap) (q : Place) → Within h q ⊎ (Within h q → ⊥)
@@ -164,7 +166,7 @@ owned_few {h} {p} {rs} o q =
     (within_or h q)
 
 module _ (h : Heap) (short : Short h) (p : Pools) (r : Roots) (m : Place → ℕ) (blank : (q : Place) → m q ≡ 0) where
-  pub held_roots : (m' : Place → ℕ) → RootsMarked false m h r m' → RowsHeld h p r → ⊥
+  held_roots : (m' : Place → ℕ) → RootsMarked false m h r m' → Decides false (RowsHeld h p r)
   held_roots m' refuted o =
       let f = owned_few o.owned in
       refuted o.exprs o.stmts o.decls o.body o.shaped (record {
@@ -188,11 +190,11 @@ module _ (h : Heap) (short : Short h) (p : Pools) (r : Roots) (m : Place → ℕ
         let w = ap (uses q h (stmt_at r.body)) (at_same short (stmt_at r.body) rows.3 o.body f.next o.owned.held.1.1.1.0) in
         omega arith
 
-    pub held_spares : (m' : Place → ℕ) → SparesMarked false m₁ h p m' → RowsHeld h p r → ⊥
+    held_spares : (m' : Place → ℕ) → SparesMarked false m₁ h p m' → Decides false (RowsHeld h p r)
     held_spares m' refuted o =
         refuted (record { chains = o.owned.chains; once = λ q. let a = met o q in let b = owned_few o.owned q in omega arith })
 
-    pub held_all : (b : Bool) (m₂ : Place → ℕ) → SparesMarked true m₁ h p m₂ → Reached b h m₂ → Decides b (RowsHeld h p r)
+    held_all : (b : Bool) (m₂ : Place → ℕ) → SparesMarked true m₁ h p m₂ → Reached b h m₂ → Decides b (RowsHeld h p r)
     held_all true m₂ spares all = record {
       exprs = rows.0;
       stmts = rows.1;
@@ -209,9 +211,31 @@ module _ (h : Heap) (short : Short h) (p : Pools) (r : Roots) (m : Place → ℕ
     }
     held_all false m₂ spares some = λ o. some (λ q w. let a = o.owned.once q w in let b = spares.met q in let c = met o q in omega arith)
 
+  -- what is found by each step, in turn
+  pub rows_refuted : {v x : Bool} (m' : Place → ℕ) → v ≡ false → x ≡ false → RootsMarked x m h r m' → Decides v (RowsHeld h p r)
+  rows_refuted m' e f n =
+      subst (λ (b : Bool). Decides b (RowsHeld h p r)) (sym e) (held_roots m' (subst (λ (b : Bool). RootsMarked b m h r m') f n))
+
+  pub spares_refuted : {v x y : Bool} (m₁ m' : Place → ℕ) → v ≡ false → x ≡ true → RootsMarked x m h r m₁ → y ≡ false → SparesMarked y m₁ h p m' →
+      Decides v (RowsHeld h p r)
+  spares_refuted m₁ m' e f rows g n =
+      subst (λ (b : Bool). Decides b (RowsHeld h p r)) (sym e)
+      (held_spares m₁ (subst (λ (b : Bool). RootsMarked b m h r m₁) f rows) m' (subst (λ (b : Bool). SparesMarked b m₁ h p m') g n))
+
+  pub all_decided : (b : Bool) {x y : Bool} (m₁ m₂ m' : Place → ℕ) → x ≡ true → RootsMarked x m h r m₁ → y ≡ true → SparesMarked y m₁ h p m₂ → m' ≡ m₂ →
+      Reached b h m' → Decides b (RowsHeld h p r)
+  all_decided b m₁ m₂ m' f rows g spares e all =
+      held_all m₁ (subst (λ (b : Bool). RootsMarked b m h r m₁) f rows) b m₂ (subst (λ (b : Bool). SparesMarked b m₁ h p m₂) g spares)
+      (subst (Reached b h) e all)
+
 -- marks that are cleared are blank, and so are their parts
+zeros_blank : (n : ℕ) → Blank (replicate n 0)
+zeros_blank zero k = refl
+zeros_blank (suc n) zero = refl
+zeros_blank (suc n) (suc k) = zeros_blank n k
+
 pub blank_cleared : (m : List ℕ) (n : ℕ) → m ≡ replicate n 0 → Blank m
-blank_cleared m n e k = ap (λ l. get_or l k 0) e ∙ getD_none n k
+blank_cleared m n e = subst Blank (sym e) (zeros_blank n)
 
 pub blank_front : (a b : List ℕ) → Blank (a ++ b) → Blank a
 blank_front [] b h k = refl

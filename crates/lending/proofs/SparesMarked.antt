@@ -16,19 +16,21 @@ pub going_start : (m links : List ℕ) (head n : ℕ) → Going m links head n m
 going_start m links head n = record { on = λ c. c; back = λ c. c; met = λ k. refl }
 
 module _ {m₀ links : List ℕ} {head n : ℕ} {m : List ℕ} {at : ℕ} where
-  pub going_step : (left t : ℕ) (m' : List ℕ) → length links ≡ t → length m ≡ t → Going m₀ links head n m at (suc left) → Claims true m at t m' → Going m₀ links head n m' (get_or links at 0) left
-  going_step left t m' e l o c = record {
+  pub going_step : (left : ℕ) (m' : List ℕ) → length m ≡ length links → Going m₀ links head n m at (suc left) → Claims true m at (length m) m' →
+      Going m₀ links head n m' (get_or links at 0) left
+  going_step left m' fit o c = record {
     on = λ r. o.on ((let a = c.0 in omega arith), r);
     back = λ r. (o.back r).1;
     met = λ k.
         let f = o.met k in
-        let s = mark_set m at k (let a = c.0 in omega arith) c.1 in
+        let s = mark_set m at k c.0 c.1 in
         let u : get_or m' k 0 ≡ get_or (set m at 1) k 0 = ap (λ v. get_or v k 0) c.2 in
         omega arith;
   }
 
-  pub going_out : (left t : ℕ) (m' : List ℕ) → length links ≡ t → Going m₀ links head n m at (suc left) → Claims false m at t m' → ChainFits m₀ links head n → ⊥
-  going_out left t m' l o c f =
+  pub going_out : (left : ℕ) (m' : List ℕ) → length m ≡ length links → Going m₀ links head n m at (suc left) → Claims false m at (length m) m' →
+      ChainFits m₀ links head n → ⊥
+  going_out left m' fit o c f =
       c.1 (let a = (o.back f.chain).0 in omega arith) (let e = o.met at in let q = f.once at in let s = same_place_self at in omega arith)
 
   pub going_end : Going m₀ links head n m at 0 → ChainMarked (eqb at nowhere) m₀ links head n m

@@ -30,6 +30,12 @@ marks_of me ms md (expr_at i) = slice_index me i
 marks_of me ms md (stmt_at i) = slice_index ms i
 marks_of me ms md (decl_at i) = slice_index md i
 
+-- a mark for each record
+pub record Sized (h : Heap) (me ms md : List ℕ) : Type 0 where
+  pub exprs : length me ≡ length h.exprs
+  pub stmts : length ms ≡ length h.stmts
+  pub decls : length md ≡ length h.decls
+
 -- how many places are not marked
 abbrev pub unmarked : List ℕ → ℕ
 unmarked [] = 0

@@ -10,133 +10,112 @@
 //     %  all other parts on lines of their own
 //     +  all other parts on indented lines
 //     @  all other parts on indented lines in braces
+use script::{Command, DeclarationKind, ForHead, ForInit, LogicalOperator, Word};
 
-// The text of a command with its first operand.
-pub fn text(code: u8, first: u8) -> &'static str {
-    match code {
-        0x01 => "#",
-        0x02 => word(first),
-        0x03 | 0x10 => "n#",
-        0x04 => "(n# = $)",
-        0x05 => "c#(*)",
-        0x06 => "(*)",
-        0x07 => "($ ? $ : $)",
-        0x08 => operator(first),
-        0x09 => "!$",
-        0x0a => "void $",
-        0x0b => "($ === $)",
-        0x11 => "n# = $",
-        _ => statement(code, first),
+pub fn text(command: Command) -> &'static str {
+    match command {
+        Command::Number(_) => "#",
+        Command::Word(Word::False) => "false",
+        Command::Word(Word::True) => "true",
+        Command::Word(Word::Null) => "null",
+        Command::Name(_) => "n#",
+        Command::Assignment(_) => "(n# = $)",
+        Command::Call { .. } => "c#(*)",
+        Command::Sequence { .. } => "(*)",
+        Command::Conditional => "($ ? $ : $)",
+        Command::Logical(LogicalOperator::And) => "($ && $)",
+        Command::Logical(LogicalOperator::Or) => "($ || $)",
+        Command::Logical(LogicalOperator::Nullish) => "($ ?? $)",
+        Command::Not => "!$",
+        Command::Void => "void $",
+        Command::StrictEquality => "($ === $)",
+        Command::Declarator { valued: false, .. } => "n#",
+        Command::Declarator { valued: true, .. } => "n# = $",
+        Command::Empty => ";",
+        Command::Expression => "~;",
+        Command::Declaration {
+            kind: DeclarationKind::Var,
+            ..
+        } => "var *;",
+        Command::Declaration {
+            kind: DeclarationKind::Let,
+            ..
+        } => "let *;",
+        Command::Declaration {
+            kind: DeclarationKind::Const,
+            ..
+        } => "const *;",
+        Command::Return { valued: false } => "return;",
+        Command::Return { valued: true } => "return ~;",
+        Command::Throw => "throw ~;",
+        Command::If { alternate: false } => "if (~)_",
+        Command::If { alternate: true } => "if (~)_<else^",
+        Command::Block { .. } => "@",
+        Command::While => "while (~)_",
+        Command::DoWhile => "do_<while (~);",
+        Command::For(head) => for_text(head),
+        Command::Break => "break;",
+        Command::Continue => "continue;",
+        Command::Case { tested: false, .. } => "default:+",
+        Command::Case { tested: true, .. } => "case ~:+",
+        Command::Switch { .. } => "switch (~) @",
+        Command::Body { .. } => "%",
     }
 }
 
-fn statement(code: u8, first: u8) -> &'static str {
-    match code {
-        0x20 => ";",
-        0x21 => "~;",
-        0x22 => declaration(first),
-        0x23 => "return;",
-        0x24 => "return ~;",
-        0x25 => "throw ~;",
-        0x26 => "if (~)_",
-        0x27 => "if (~)_<else^",
-        0x28 => "@",
-        0x29 => "while (~)_",
-        0x2a => "do_<while (~);",
-        0x2b => for_loop(first),
-        0x2d => "break;",
-        0x2e => "continue;",
-        0x2f => case(first),
-        0x30 => "switch (~) @",
-        _ => "%",
+// A declaration ends with a semicolon of its own.
+fn for_text(head: ForHead) -> &'static str {
+    match (head.init, head.test, head.update) {
+        (ForInit::Absent, false, false) => "for (; ; )_",
+        (ForInit::Absent, false, true) => "for (; ; ~)_",
+        (ForInit::Absent, true, false) => "for (; ~; )_",
+        (ForInit::Absent, true, true) => "for (; ~; ~)_",
+        (ForInit::Expression, false, false) => "for (~; ; )_",
+        (ForInit::Expression, false, true) => "for (~; ; ~)_",
+        (ForInit::Expression, true, false) => "for (~; ~; )_",
+        (ForInit::Expression, true, true) => "for (~; ~; ~)_",
+        (ForInit::Declaration, false, false) => "for ($ ; )_",
+        (ForInit::Declaration, false, true) => "for ($ ; ~)_",
+        (ForInit::Declaration, true, false) => "for ($ ~; )_",
+        (ForInit::Declaration, true, true) => "for ($ ~; ~)_",
     }
 }
 
-fn word(word: u8) -> &'static str {
-    match word {
-        0 => "false",
-        1 => "true",
-        _ => "null",
+// The name or number that a command tells. The bits of a number tell it with its sign.
+pub fn number(command: Command) -> Option<i32> {
+    match command {
+        Command::Number(bits) => Some(bits.cast_signed()),
+        Command::Name(name) | Command::Assignment(name) | Command::Declarator { name, .. } => Some(
+            i32::from(name),
+        ),
+        Command::Call { number, .. } => Some(i32::from(number)),
+        _ => None,
     }
 }
 
-fn operator(operator: u8) -> &'static str {
-    match operator {
-        0 => "($ && $)",
-        1 => "($ || $)",
-        _ => "($ ?? $)",
-    }
+// How many parts a command takes: those with marks of their own, and as many more as it counts.
+pub fn parts(command: Command) -> usize {
+    text(command)
+        .chars()
+        .filter(|mark| is_part(*mark))
+        .count()
+        .saturating_add(usize::from(counted(command)))
 }
 
-fn declaration(kind: u8) -> &'static str {
-    match kind {
-        0 => "var *;",
-        1 => "let *;",
-        _ => "const *;",
-    }
+// Whether a mark is one part.
+pub fn is_part(mark: char) -> bool {
+    matches!(mark, '$' | '~' | '_' | '^')
 }
 
-fn case(tested: u8) -> &'static str {
-    match tested {
-        0 => "default:+",
-        _ => "case ~:+",
-    }
-}
-
-// The bits of a `for` are its parts: an init that is an expression, one that is a declaration, a test, an update.
-fn for_loop(bits: u8) -> &'static str {
-    match bits {
-        0x00 => "for (; ; )_",
-        0x01 => "for (~; ; )_",
-        0x02 => "for ($ ; )_",
-        0x04 => "for (; ~; )_",
-        0x05 => "for (~; ~; )_",
-        0x06 => "for ($ ~; )_",
-        0x08 => "for (; ; ~)_",
-        0x09 => "for (~; ; ~)_",
-        0x0a => "for ($ ; ~)_",
-        0x0c => "for (; ~; ~)_",
-        0x0d => "for (~; ~; ~)_",
-        _ => "for ($ ~; ~)_",
-    }
-}
-
-// How many bytes the operands of a command have.
-pub fn width(code: u8) -> usize {
-    match code {
-        0x01 => 4,
-        0x02 | 0x03 | 0x04 | 0x08 | 0x10 | 0x11 | 0x2b => 1,
-        0x05 | 0x06 | 0x28 | 0x30 => 2,
-        0x22 | 0x2f | 0x3f => 3,
+fn counted(command: Command) -> u16 {
+    match command {
+        Command::Call { count, .. } => u16::from(count),
+        Command::Sequence { count }
+        | Command::Declaration { count, .. }
+        | Command::Block { count }
+        | Command::Case { count, .. }
+        | Command::Switch { count }
+        | Command::Body { count } => count,
         _ => 0,
     }
-}
-
-// The name or number that a command tells.
-pub fn number(code: u8, operands: &[u8]) -> i32 {
-    let first = byte(operands, 0);
-    if code != 0x01 {
-        return i32::from(first);
-    }
-    i32::from_le_bytes([
-        first,
-        byte(operands, 1),
-        byte(operands, 2),
-        byte(operands, 3),
-    ])
-}
-
-// The count that a command tells, the low byte first. That of a call has one byte.
-pub fn count(code: u8, operands: &[u8]) -> u16 {
-    match code {
-        0x05 => u16::from(byte(operands, 1)),
-        0x06 | 0x28 | 0x30 => u16::from_le_bytes([byte(operands, 0), byte(operands, 1)]),
-        0x22 | 0x2f | 0x3f => u16::from_le_bytes([byte(operands, 1), byte(operands, 2)]),
-        _ => 0,
-    }
-}
-
-// The byte at a place, or 0 behind the end.
-pub fn byte(bytes: &[u8], at: usize) -> u8 {
-    bytes.get(at).copied().unwrap_or(0)
 }

@@ -1,124 +1,112 @@
 // A readable listing of a body: each command takes the texts of its parts off a stack and puts its own there.
-use crate::command::{byte, count, number, text, width};
+use crate::command::{is_part, number, parts, text};
+use reading::{Step, read_byte};
+use script::{Awaiting, Command};
 use std::alloc::{AllocError, Global};
+use std::fmt::Write;
 
 // The script that a sheet's written bytes spell. Names are n0, n1 and so on, and calls c0, c1 and so on.
+// A byte that is refused where it stands is passed over, and the reading goes on as if it had not come.
 pub fn listing(heap: Global, bytes: &[u8]) -> anyhow::Result<String> {
     let mut texts = Vec::new(heap);
-    let mut rest = bytes;
-    for _ in 0..bytes.len() {
-        let Some((code, operands)) = rest.split_first() else {
-            break;
-        };
-        perform(heap, &mut texts, *code, operands)?;
-        rest = operands.get(width(*code)..).unwrap_or(&[]);
+    let mut awaiting = Awaiting::Command;
+    for byte in bytes {
+        match read_byte(awaiting, *byte) {
+            Ok(Step::Await(next)) => awaiting = next,
+            Ok(Step::Perform(command)) => {
+                perform(heap, &mut texts, command)?;
+                awaiting = Awaiting::Command;
+            }
+            Err(_) => {}
+        }
     }
     Ok(texts.pop().unwrap_or(String::new(heap)))
 }
 
-fn perform(heap: Global, texts: &mut Vec<String>, code: u8, operands: &[u8]) -> anyhow::Result<()> {
-    let text = text(code, byte(operands, 0));
-    let parts = single_parts(text).saturating_add(usize::from(count(code, operands)));
-    let parts = texts.split_off(texts.len().saturating_sub(parts))?;
-    let number = number(code, operands).to_string(heap)?;
-    let told = told(heap, text, &number, &parts)?;
-    texts.push(told)?;
+fn perform(heap: Global, texts: &mut Vec<String>, command: Command) -> anyhow::Result<()> {
+    let parts = texts.split_off(texts.len().saturating_sub(parts(command)))?;
+    let mut telling = Telling {
+        heap,
+        told: String::new(heap),
+        number: number(command),
+        part: "",
+        rest: &parts,
+    };
+    for mark in text(command).chars() {
+        telling.tell(mark)?;
+    }
+    texts.push(telling.told)?;
     Ok(())
 }
 
-// Whether a mark is one part.
-fn is_part(mark: char) -> bool {
-    match mark {
-        '$' | '~' | '_' | '^' => true,
-        _ => false,
-    }
-}
-
-fn single_parts(text: &str) -> usize {
-    let mut parts = 0usize;
-    for mark in text.chars() {
-        parts = parts.saturating_add(usize::from(is_part(mark)));
-    }
-    parts
-}
-
-// A text with its parts in the place of their marks.
-fn told(heap: Global, text: &str, number: &str, parts: &[String]) -> Result<String, AllocError> {
-    let mut told = String::new(heap);
-    let mut at = 0usize;
-    for mark in text.chars() {
-        tell(heap, &mut told, mark, number, parts, at)?;
-        at = at.saturating_add(usize::from(is_part(mark)));
-    }
-    Ok(told)
-}
-
-// The part at a place.
-fn part(parts: &[String], at: usize) -> &str {
-    match parts.get(at) {
-        Some(part) => part,
-        None => "",
-    }
-}
-
-// The parts from a place on.
-fn behind(parts: &[String], at: usize) -> &[String] {
-    parts.get(at..).unwrap_or(parts)
-}
-
-fn tell(
+// A command's text as far as it is told, the part that was told last, and the parts that are left.
+#[derive(Drop)]
+struct Telling<'a> {
     heap: Global,
-    told: &mut String,
-    mark: char,
-    number: &str,
-    parts: &[String],
-    at: usize,
-) -> Result<(), AllocError> {
-    match mark {
-        '#' => told.push_str(number),
-        '$' => told.push_str(part(parts, at)),
-        '~' => told.push_str(bare(part(parts, at))),
-        '_' => tell_under(told, part(parts, at), false),
-        '^' => tell_under(told, part(parts, at), true),
-        '<' => told.push(after(part(parts, at.saturating_sub(1)))),
-        '*' | '%' | '+' | '@' => tell_rest(heap, told, mark, behind(parts, at)),
-        _ => told.push(mark),
+    told: String,
+    number: Option<i32>,
+    part: &'a str,
+    rest: &'a [String],
+}
+
+impl<'a> Telling<'a> {
+    fn tell(&mut self, mark: char) -> Result<(), AllocError> {
+        if is_part(mark) {
+            self.go_on();
+        }
+        match mark {
+            '#' => self.tell_number(),
+            '$' => self.told.push_str(self.part),
+            '~' => self.told.push_str(bare(self.part)),
+            '_' => tell_under(&mut self.told, self.part, is_block(self.part)),
+            '^' => tell_under(
+                &mut self.told,
+                self.part,
+                is_block(self.part) || self.part.starts_with("if "),
+            ),
+            '<' => self.told.push(if is_block(self.part) { ' ' } else { '\n' }),
+            '*' => self.told.push_str(&self.rest.join(self.heap, ", ")?),
+            '%' => self.told.push_str(&self.rest.join(self.heap, "\n")?),
+            '+' => tell_lines(&mut self.told, &self.rest.join(self.heap, "\n")?),
+            '@' => tell_braced(&mut self.told, &self.rest.join(self.heap, "\n")?),
+            _ => self.told.push(mark),
+        }
+    }
+
+    // Goes on to the next part.
+    fn go_on(&mut self) {
+        if let Some((part, rest)) = self.rest.split_first() {
+            self.part = part;
+            self.rest = rest;
+        }
+    }
+
+    fn tell_number(&mut self) -> Result<(), AllocError> {
+        match self.number {
+            Some(number) => write!(self.told, "{number}"),
+            None => Ok(()),
+        }
     }
 }
 
 // An expression without the parentheses around the whole of it: a text that begins with one ends with its partner.
 fn bare(text: &str) -> &str {
-    match text.strip_prefix('(') {
-        Some(rest) => rest.strip_suffix(')').unwrap_or(text),
-        None => text,
-    }
+    text.strip_prefix('(')
+        .and_then(|rest| rest.strip_suffix(')'))
+        .unwrap_or(text)
 }
 
-// A block begins on the line of its head, and so does an `if` after `else`; any other statement is indented below.
-fn tell_under(told: &mut String, stmt: &str, after_else: bool) -> Result<(), AllocError> {
-    if stmt.starts_with('{') || after_else && stmt.starts_with("if ") {
+fn is_block(stmt: &str) -> bool {
+    stmt.starts_with('{')
+}
+
+// A statement on the line of its head, or indented below.
+fn tell_under(told: &mut String, stmt: &str, on_line: bool) -> Result<(), AllocError> {
+    if on_line {
         told.push(' ')?;
         told.push_str(stmt)
     } else {
         tell_lines(told, stmt)
-    }
-}
-
-fn after(stmt: &str) -> char {
-    if stmt.starts_with('{') { ' ' } else { '\n' }
-}
-
-fn tell_rest(
-    heap: Global,
-    told: &mut String,
-    mark: char,
-    rest: &[String],
-) -> Result<(), AllocError> {
-    let row = rest.join(heap, if mark == '*' { ", " } else { "\n" })?;
-    match mark {
-        '+' => tell_lines(told, &row),
-        '@' => tell_braced(told, &row),
-        _ => told.push_str(&row),
     }
 }
 

@@ -45,7 +45,8 @@ pub put_expression : {h : Heap} {p : Pools} {loose : List Place} {rest : List Ro
 put_expression {at = at} {next = next} e w o =
     close_stmt (expression e) w (expression_record at next) refl (pick 2 (end_in (stmt_at nowhere) refl (end_in (decl_at nowhere) refl o)))
 
-module _ {exprs exprs₁ : List ExprRecord} {stmts stmts₁ : List StmtRecord} {ds : List DeclRecord} {p p₁ p₂ : Pools} {loose : List Place} {rest : List Root} {target results joined : ℕ} where
+module _ {exprs exprs₁ : List ExprRecord} {stmts stmts₁ : List StmtRecord} {ds : List DeclRecord} {p p₁ p₂ : Pools}
+    {loose : List Place} {rest : List Root} {target results joined : ℕ} where
   -- the newest result is an expression: its record was given back, and it was joined with the target
   pub last_merged : (e : Expr) (r : Stmts) → statement.Expression ≡ (get_or stmts results blank_stmt).kind
       → ((roots : List Root) → Owns (tables exprs stmts ds) p (stmt_at results ∷ loose) roots
@@ -75,7 +76,9 @@ module _ {exprs exprs₁ : List ExprRecord} {stmts stmts₁ : List StmtRecord} {
           (λ o₁. joins a e loose ((stmt_at (get_or stmts results blank_stmt).next, stmts_row r') ∷ rest) o₁)
 
 -- it is none, and nothing was done
-pub none_merged : {exprs : List ExprRecord} {stmts : List StmtRecord} {ds : List DeclRecord} {p : Pools} {loose : List Place} {rest : List Root} {target results : ℕ} (e : Expr) (r : Stmts) → ((get_or stmts results blank_stmt).kind ≡ statement.Expression → ⊥)
+pub none_merged : {exprs : List ExprRecord} {stmts : List StmtRecord} {ds : List DeclRecord} {p : Pools}
+    {loose : List Place} {rest : List Root} {target results : ℕ} (e : Expr) (r : Stmts)
+    → ((get_or stmts results blank_stmt).kind ≡ statement.Expression → ⊥)
     → Owns (tables exprs stmts ds) p loose ((expr_at target, expr_row e end) ∷ (stmt_at results, stmts_row r) ∷ rest)
     → Moved (tables exprs stmts ds) (tables exprs stmts ds) p loose
     ((expr_at target, optional_row (merge_last_expression_into_sequence true e r).target end)

@@ -1,5 +1,6 @@
 -- Leading assignments merged one by one, and the sequence of what is left.
-use Rattle.std.proofs.Common.{◌≡◌, ℕ, suc, ◌+◌, ◌≤◌, Bool, true, false, not, ◌||◌, ◌≢◌, List, [], ◌∷◌, length, get_or, set, sym, refl, ◌∙◌, subst, arith}
+use Rattle.std.proofs.Common.{◌≡◌, ℕ, suc, ◌+◌, ◌≤◌, Bool, true, false, ◌||◌, ◌≢◌, List, [], ◌∷◌, length, Option, None, Some, get_or, set}
+use Rattle.std.proofs.Common.{sym, refl, ◌∙◌, subst, arith}
 use Rattle.pool.specs.Chain.{nowhere}
 use Rattle.script.specs.declared.DeclarationKind.{DeclarationKind}
 use Rattle.script.specs.declared.ExpressionKind.TheVariants as expression
@@ -31,14 +32,6 @@ use Rattle.merging.specs.Leading.{Step, declarators_after, has_taken, items_afte
 use Rattle.merging.proofs.LeadingStep.{Stepped}
 use Rattle.merging.proofs.Results.{declaration_newest, kind_of_newest, no_declaration_newest}
 
-is_false : (b : Bool) → not b ≡ true → b ≡ false
-is_false true e = sym e
-is_false false e = refl
-
-is_true : (b : Bool) → not b ≡ false → b ≡ true
-is_true true e = refl
-is_true false e = sym e
-
 -- what the rule makes of the items, told by its first step
 abbrev Leads : Leading → Bool → DeclarationKind → Exprs → Declarators → Step → Type 0
 Leads l d k xs ds (takes ys es) = (l ≡ merge_leading d ys k es) × (suc (count_exprs ys) ≡ count_exprs xs)
@@ -49,7 +42,8 @@ first_step d k no_exprs ds = refl
 first_step d k (expr_then x xs) ds = by (d || has_items xs) (assignment? x)
   where
     after : (g : Merge) (n : ℕ) (e : Expr)
-        → Leads (merge_leading_after g (expr_then (assignment n e) xs) ds (λ ds'. merge_leading d xs k ds')) d k (expr_then (assignment n e) xs) ds (step_merged g xs)
+        → Leads (merge_leading_after g (expr_then (assignment n e) xs) ds (λ ds'. merge_leading d xs k ds'))
+        d k (expr_then (assignment n e) xs) ds (step_merged g xs)
     after (merged ds') n e = (refl, refl)
     after blocked n e = refl
     after clear n e = refl
@@ -70,11 +64,11 @@ Going exprs₀ decls₀ p₀ exprs decls p d k names items left n =
     × (merge_leading d xs k ds ≡ merge_leading d ys k es) × (count_exprs ys + n ≤ count_exprs xs)
 
 -- what a step promises
-abbrev pub Steps : List ExprRecord → List DeclRecord → Pools → List ExprRecord → List DeclRecord → Pools → Bool → DeclarationKind → ℕ → ℕ → ℕ → Bool → Type 0
-Steps exprs decls p exprs₁ decls₁ p₁ d k names left left₁ b =
+abbrev pub Steps : List ExprRecord → List DeclRecord → Pools → List ExprRecord → List DeclRecord → Pools → Bool → DeclarationKind → ℕ → ℕ → Option ℕ → Type 0
+Steps exprs decls p exprs₁ decls₁ p₁ d k names left behind =
     (ss : List StmtRecord) (xs : Exprs) (ds : Declarators) (loose : List Place) (rest : List Root)
     → Owns (tables exprs ss decls) p loose ((decl_at names, declarators_row ds) ∷ (expr_at left, exprs_row xs) ∷ rest)
-    → Stepped (tables exprs ss decls) (tables exprs₁ ss decls₁) p₁ loose rest names left₁ b ds xs (leading_step d xs k ds)
+    → Stepped (tables exprs ss decls) (tables exprs₁ ss decls₁) p₁ loose rest names left behind ds xs (leading_step d xs k ds)
 
 -- no row has more items than the table
 items_fit : {h : Heap} {p : Pools} {loose : List Place} {rest : List Root} {i : ℕ} (xs : Exprs) → Owns h p loose ((expr_at i, exprs_row xs) ∷ rest)
@@ -103,53 +97,52 @@ module _ (exprs₀ : List ExprRecord) (decls₀ : List DeclRecord) (p₀ : Pools
       by no_exprs es m c = m
       by (expr_then y ys) es m c = let f = items_fit xs (pick 1 o) in absurd (omega arith)
 
-  module _ (exprs₁ : List ExprRecord) (decls₁ : List DeclRecord) (p₁ : Pools) (left₁ : ℕ) where
+  module _ (exprs₁ : List ExprRecord) (decls₁ : List DeclRecord) (p₁ : Pools) where
     -- the first item stays, and with it all of them
-    pub step_stays : (b : Bool) → not b ≡ true → Steps exprs decls p exprs₁ decls₁ p₁ d k names left left₁ b
+    pub step_stays : Steps exprs decls p exprs₁ decls₁ p₁ d k names left None
         → (ss : List StmtRecord) (xs : Exprs) (ds : Declarators) (loose : List Place) (rest : List Root)
         → Owns (tables exprs₀ ss decls₀) p₀ loose ((decl_at names, declarators_row ds) ∷ (expr_at items, exprs_row xs) ∷ rest)
-        → After ss exprs₁ decls₁ p₁ loose rest left₁ (merge_leading d xs k ds)
-    step_stays b is step ss xs ds loose rest o =
+        → After ss exprs₁ decls₁ p₁ loose rest left (merge_leading d xs k ds)
+    step_stays step ss xs ds loose rest o =
         let q = inv ss xs ds loose rest o in
         let s = step ss q.0 q.1 loose rest q.2.owned in
-        subst (λ (v : Leading). After ss exprs₁ decls₁ p₁ loose rest left₁ v) (sym q.3)
-        (by q.0 q.1 (leading_step d q.0 k q.1) (first_step d k q.0 q.1) (sym (is_false b is) ∙ s.0)
-        (record { owned = s.1.owned; kept = kept_both q.2.kept s.1.kept }))
+        subst (λ (v : Leading). After ss exprs₁ decls₁ p₁ loose rest left v) (sym q.3)
+        (by q.0 q.1 (leading_step d q.0 k q.1) (first_step d k q.0 q.1) s.0 (record { owned = s.1.owned; kept = kept_both q.2.kept s.1.kept }))
       where
         by : (ys : Exprs) (es : Declarators) (s : Step) → Leads (merge_leading d ys k es) d k ys es s → false ≡ has_taken s
             → Moved (tables exprs₀ ss decls₀) (tables exprs₁ ss decls₁) p₁ loose
-            ((decl_at names, declarators_row (declarators_after s es)) ∷ (expr_at left₁, exprs_row (items_after s ys)) ∷ rest)
-            → After ss exprs₁ decls₁ p₁ loose rest left₁ (merge_leading d ys k es)
-        by ys es (takes ys' es') l z m = let y : ◌≡◌ {A = ℕ} 0 1 = cc in absurd (omega arith)
-        by ys es rests l z m = subst (λ (v : Leading). After ss exprs₁ decls₁ p₁ loose rest left₁ v) (sym l) m
+            ((decl_at names, declarators_row (declarators_after s es)) ∷ (expr_at left, exprs_row (items_after s ys)) ∷ rest)
+            → After ss exprs₁ decls₁ p₁ loose rest left (merge_leading d ys k es)
+        by ys es (takes ys' es') l z m = cc
+        by ys es rests l z m = subst (λ (v : Leading). After ss exprs₁ decls₁ p₁ loose rest left v) (sym l) m
 
     -- one item more is merged
-    pub step_goes : (b : Bool) → not b ≡ false → Steps exprs decls p exprs₁ decls₁ p₁ d k names left left₁ b
-        → Going exprs₀ decls₀ p₀ exprs₁ decls₁ p₁ d k names items left₁ (n + 1)
-    step_goes b is step ss xs ds loose rest o =
+    pub step_goes : (behind : ℕ) → Steps exprs decls p exprs₁ decls₁ p₁ d k names left (Some behind)
+        → Going exprs₀ decls₀ p₀ exprs₁ decls₁ p₁ d k names items behind (n + 1)
+    step_goes behind step ss xs ds loose rest o =
         let q = inv ss xs ds loose rest o in
         let s = step ss q.0 q.1 loose rest q.2.owned in
-        by q.0 q.1 q.3 q.4 (leading_step d q.0 k q.1) (first_step d k q.0 q.1) (sym (is_true b is) ∙ s.0)
-        (record { owned = s.1.owned; kept = kept_both q.2.kept s.1.kept })
+        by q.0 q.1 q.3 q.4 (leading_step d q.0 k q.1) (first_step d k q.0 q.1) s.0 (record { owned = s.1.owned; kept = kept_both q.2.kept s.1.kept })
       where
         by : (ys : Exprs) (es : Declarators) → merge_leading d xs k ds ≡ merge_leading d ys k es → count_exprs ys + n ≤ count_exprs xs
             → (s : Step) → Leads (merge_leading d ys k es) d k ys es s → true ≡ has_taken s
             → Moved (tables exprs₀ ss decls₀) (tables exprs₁ ss decls₁) p₁ loose
-            ((decl_at names, declarators_row (declarators_after s es)) ∷ (expr_at left₁, exprs_row (items_after s ys)) ∷ rest)
+            ((decl_at names, declarators_row (declarators_after s es)) ∷ (expr_at behind, exprs_row (items_after s ys)) ∷ rest)
             → (ys' : Exprs) × (es' : Declarators)
-            × Moved (tables exprs₀ ss decls₀) (tables exprs₁ ss decls₁) p₁ loose ((decl_at names, declarators_row es') ∷ (expr_at left₁, exprs_row ys') ∷ rest)
+            × Moved (tables exprs₀ ss decls₀) (tables exprs₁ ss decls₁) p₁ loose
+            ((decl_at names, declarators_row es') ∷ (expr_at behind, exprs_row ys') ∷ rest)
             × (merge_leading d xs k ds ≡ merge_leading d ys' k es') × (count_exprs ys' + (n + 1) ≤ count_exprs xs)
         by ys es e c (takes ys' es') l z m = (ys', es', m, e ∙ l.0, let f = l.1 in (omega arith))
-        by ys es e c rests l z m = let y : ◌≡◌ {A = ℕ} 0 1 = cc in absurd (omega arith)
+        by ys es e c rests l z m = cc
 
 -- the sequence of what is left
 
-no_items : (h : Heap) (i : ℕ) (xs : Exprs) → Short h → At h (expr_at i) (exprs_row xs) → i ≡ nowhere
+pub no_items : (h : Heap) (i : ℕ) (xs : Exprs) → Short h → At h (expr_at i) (exprs_row xs) → i ≡ nowhere
     → exprs_row xs ≡ optional_row (sequence_of_items xs) end
 no_items h i no_exprs s a z = refl
 no_items h i (expr_then x xs) s a z = let w = expr_within h i x (exprs_row xs) a in let l = s.exprs in absurd (omega arith)
 
-one_item : (h : Heap) (i : ℕ) (xs : Exprs) → Short h → At h (expr_at i) (exprs_row xs) → (get_or h.exprs i blank_expr).next ≡ nowhere
+pub one_item : (h : Heap) (i : ℕ) (xs : Exprs) → Short h → At h (expr_at i) (exprs_row xs) → (get_or h.exprs i blank_expr).next ≡ nowhere
     → exprs_row xs ≡ optional_row (sequence_of_items xs) end
 one_item h i no_exprs s a z = refl
 one_item h i (expr_then x no_exprs) s a z = refl
@@ -158,20 +151,16 @@ one_item h i (expr_then x (expr_then y ys)) s a z =
     let l = s.exprs in
     absurd (omega arith)
 
-module _ {h h₁ : Heap} {p p₁ : Pools} {loose : List Place} {rest : List Root} {at items : ℕ} (xs : Exprs)
-    (o : Owns h p (expr_at at ∷ loose) ((expr_at items, exprs_row xs) ∷ rest))
-    (gives : (roots : List Root) → Owns h p (expr_at at ∷ loose) roots → Moved h h₁ p₁ loose roots) where
-  pub none_left : items ≡ nowhere → Moved h h₁ p₁ loose ((expr_at items, optional_row (sequence_of_items xs) end) ∷ rest)
-  none_left z =
-      gives _ (subst (λ (w : Row). Owns h p (expr_at at ∷ loose) ((expr_at items, w) ∷ rest)) (no_items h items xs o.short o.held.0 z) o)
-
-  pub one_left : (get_or h.exprs items blank_expr).next ≡ nowhere → Moved h h₁ p₁ loose ((expr_at items, optional_row (sequence_of_items xs) end) ∷ rest)
-  one_left z =
-      gives _ (subst (λ (w : Row). Owns h p (expr_at at ∷ loose) ((expr_at items, w) ∷ rest)) (one_item h items xs o.short o.held.0 z) o)
+pub few_left : {h h₁ : Heap} {p p₁ : Pools} {loose : List Place} {rest : List Root} {at items : ℕ} (xs : Exprs)
+    → exprs_row xs ≡ optional_row (sequence_of_items xs) end → Owns h p (expr_at at ∷ loose) ((expr_at items, exprs_row xs) ∷ rest)
+    → ((roots : List Root) → Owns h p (expr_at at ∷ loose) roots → Moved h h₁ p₁ loose roots)
+    → Moved h h₁ p₁ loose ((expr_at items, optional_row (sequence_of_items xs) end) ∷ rest)
+few_left xs e o gives = gives _ (rw e at o)
 
 pub many_left : {h : Heap} {p : Pools} {loose : List Place} {rest : List Root} {at items : ℕ} (xs : Exprs)
     → items ≢ nowhere → (get_or h.exprs items blank_expr).next ≢ nowhere → Owns h p (expr_at at ∷ loose) ((expr_at items, exprs_row xs) ∷ rest)
-    → Moved h (record { exprs = set h.exprs at (record { kind = expression.Sequence; first = items; next = nowhere }); stmts = h.stmts; decls = h.decls }) p loose
+    → Moved h
+    (record { exprs = set h.exprs at (record { kind = expression.Sequence; first = items; next = nowhere }); stmts = h.stmts; decls = h.decls }) p loose
     ((expr_at at, optional_row (sequence_of_items xs) end) ∷ rest)
 many_left no_exprs n m o = absurd (n o.held.0)
 many_left {h} {items = items} (expr_then x no_exprs) n m o = absurd (m (expr_behind h items x end o.held.0))
@@ -212,7 +201,8 @@ MergedLeading h h' p' loose rest d k names left xs ds =
     ((decl_at names, declarators_row (merge_leading d xs k ds).declarators)
     ∷ (expr_at left, optional_row (sequence_of_items (merge_leading d xs k ds).items) end) ∷ rest)
 
-pub leading_lone : {h h₁ : Heap} {p p₁ : Pools} {loose : List Place} {rest : List Root} {names target left : ℕ} (d : Bool) (k : DeclarationKind) (e : Expr) (ds : Declarators)
+pub leading_lone : {h h₁ : Heap} {p p₁ : Pools} {loose : List Place} {rest : List Root} {names target left : ℕ}
+    (d : Bool) (k : DeclarationKind) (e : Expr) (ds : Declarators)
     → ((get_or h.exprs target blank_expr).kind ≡ expression.Sequence → ⊥) → MergesItems h p h₁ p₁ d k names target left
     → Owns h p loose ((decl_at names, declarators_row ds) ∷ (expr_at target, expr_row e end) ∷ rest)
     → MergedLeading h h₁ p₁ loose rest d k names left (items_of (sequence? e)) ds
@@ -223,9 +213,11 @@ leading_lone {h} {h₁} {p} {p₁} {loose} {rest} {names} {target} {left} d k e 
     ((decl_at names, declarators_row (merge_leading d (expr_then e no_exprs) k ds).declarators) ∷ (expr_at left, w) ∷ rest))
     (lone_item d k ds e) (merges (expr_then e no_exprs) ds loose rest o))
 
-pub leading_sequence : {h h₁ h₂ : Heap} {p p₁ p₂ : Pools} {loose : List Place} {rest : List Root} {names target left closed : ℕ} (d : Bool) (k : DeclarationKind) (e : Expr) (ds : Declarators)
+pub leading_sequence : {h h₁ h₂ : Heap} {p p₁ p₂ : Pools} {loose : List Place} {rest : List Root} {names target left closed : ℕ}
+    (d : Bool) (k : DeclarationKind) (e : Expr) (ds : Declarators)
     → expression.Sequence ≡ (get_or h.exprs target blank_expr).kind → MergesItems h p h₁ p₁ d k names (get_or h.exprs target blank_expr).first left
-    → ((xs : Exprs) → Turns h₁ p₁ h₂ p₂ (expr_at target ∷ []) ((expr_at left, exprs_row xs) ∷ []) ((expr_at closed, optional_row (sequence_of_items xs) end) ∷ []))
+    → ((xs : Exprs)
+    → Turns h₁ p₁ h₂ p₂ (expr_at target ∷ []) ((expr_at left, exprs_row xs) ∷ []) ((expr_at closed, optional_row (sequence_of_items xs) end) ∷ []))
     → Owns h p loose ((decl_at names, declarators_row ds) ∷ (expr_at target, expr_row e end) ∷ rest)
     → MergedLeading h h₂ p₂ loose rest d k names closed (items_of (sequence? e)) ds
 leading_sequence {h} {h₁} {h₂} {p} {p₁} {p₂} {loose} {rest} {names} {target} {left} {closed} d k e ds is merges closes o =
@@ -269,7 +261,8 @@ module _ {h h₁ : Heap} {p p₁ : Pools} {loose : List Place} {rest : List Root
           ∷ (stmt_at results, stmts_row (stmt_then (declaration k (merge_leading d (items_of (sequence? e)) k ds).declarators) r')) ∷ rest)
       by ds r' o₀ =
           regroup
-          (inside_stmt (declaration k ds) (declaration k (merge_leading d (items_of (sequence? e)) k ds).declarators) (stmts_row r') (stmts_row r') refl (pick 1 o₀)
+          (inside_stmt (declaration k ds) (declaration k (merge_leading d (items_of (sequence? e)) k ds).declarators)
+          (stmts_row r') (stmts_row r') refl (pick 1 o₀)
           (λ o₁. regroup
           (merges e ds (stmt_at results ∷ loose)
           ((expr_at (get_or h.stmts results blank_stmt).exprs, end) ∷ (stmt_at (get_or h.stmts results blank_stmt).stmts, end)

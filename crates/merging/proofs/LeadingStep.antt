@@ -1,11 +1,14 @@
 -- One step of merging leading assignments.
-use Rattle.std.proofs.Common.{◌≡◌, ℕ, Bool, true, false, not, ◌||◌, List, [], ◌∷◌, get_or, sym, refl, ap, ◌∙◌, subst, arith, eq-eqb, ne_eqb}
+use Rattle.std.proofs.Common.{◌≡◌, ℕ, Bool, true, false, not, ◌||◌, List, [], ◌∷◌, Option, None, Some, get_or}
+use Rattle.std.proofs.Common.{sym, refl, ap, ◌∙◌, subst, arith, eq-eqb, ne_eqb}
+use Rattle.std.specs.Option.{is_some, unwrap_or}
 use Rattle.pool.specs.Chain.{nowhere}
 use Rattle.std.proofs.lemmas.List.{get_or_past}
 use Rattle.script.specs.declared.DeclarationKind.{DeclarationKind}
 use Rattle.script.specs.declared.ExpressionKind.{ExpressionKind}
 use Rattle.script.specs.declared.ExpressionKind.TheVariants as expression
-use Rattle.script.specs.Tree.{Declarators, Expr, Exprs, assignment, call, conditional, expr_then, logical, name, no_exprs, not as negation, number, sequence, strict_equality, void, word}
+use Rattle.script.specs.Tree.{Declarators, Expr, Exprs, assignment, call, conditional, expr_then, logical, name, no_exprs, not as negation}
+use Rattle.script.specs.Tree.{number, sequence, strict_equality, void, word}
 use Rattle.records.specs.declared.record.ExprRecord.{ExprRecord}
 use Rattle.records.specs.declared.record.Pools.{Pools}
 use Rattle.records.specs.Embedding.{declarators_row, expr_row, exprs_row}
@@ -26,10 +29,11 @@ use Rattle.merging.specs.Leading.{Step, declarators_after, has_taken, items_afte
 use Rattle.merging.specs.Searched.{is_merged, leads, merged_roots}
 
 -- what a step did
-abbrev pub Stepped : Heap → Heap → Pools → List Place → List Root → ℕ → ℕ → Bool → Declarators → Exprs → Step → Type 0
-Stepped h h' p' loose rest names left b ds xs s =
-    (b ≡ has_taken s)
-    × Moved h h' p' loose ((decl_at names, declarators_row (declarators_after s ds)) ∷ (expr_at left, exprs_row (items_after s xs)) ∷ rest)
+abbrev pub Stepped : Heap → Heap → Pools → List Place → List Root → ℕ → ℕ → Option ℕ → Declarators → Exprs → Step → Type 0
+Stepped h h' p' loose rest names items behind ds xs s =
+    (is_some behind ≡ has_taken s)
+    × Moved h h' p' loose
+    ((decl_at names, declarators_row (declarators_after s ds)) ∷ (expr_at (unwrap_or behind items), exprs_row (items_after s xs)) ∷ rest)
 
 -- a link leads to items where there are some
 items_lead : (h : Heap) (i : ℕ) (xs : Exprs) → Short h → At h (expr_at i) (exprs_row xs) → leads i ≡ has_items xs
@@ -63,7 +67,7 @@ no_assignment_here (void e) n = refl
 no_assignment_here (strict_equality a b) n = refl
 
 assignment_first : (xs : Exprs) (n : ℕ) → expression.Assignment n ≡ first_kind xs → (e : Expr) × (xs' : Exprs) × (xs ≡ expr_then (assignment n e) xs')
-assignment_first no_exprs n k = let z : ◌≡◌ {A = ℕ} 0 1 = cc in absurd (omega arith)
+assignment_first no_exprs n k = cc
 assignment_first (expr_then x xs) n k = let q = expr_of_kind x k in (q.0, xs, ap (λ (v : Expr). expr_then v xs) q.1)
 
 -- the last item stays
@@ -95,18 +99,18 @@ assignment_step h i d n e xs k ds s a z =
 
 rested : {h h' : Heap} {p' : Pools} {loose : List Place} {rest : List Root} {names left : ℕ} (ds : Declarators) (xs : Exprs) (s : Step) → s ≡ rests
     → Moved h h' p' loose ((decl_at names, declarators_row ds) ∷ (expr_at left, exprs_row xs) ∷ rest)
-    → Stepped h h' p' loose rest names left false ds xs s
+    → Stepped h h' p' loose rest names left None ds xs s
 rested {h} {h'} {p'} {loose} {rest} {names} {left} ds xs s e m =
-    subst (λ (v : Step). Stepped h h' p' loose rest names left false ds xs v) (sym e) (refl, m)
+    subst (λ (v : Step). Stepped h h' p' loose rest names left None ds xs v) (sym e) (refl, m)
 
 module _ {h : Heap} {p : Pools} {loose : List Place} {rest : List Root} {names items : ℕ} (d : Bool) (k : DeclarationKind) (xs : Exprs) (ds : Declarators)
     (o : Owns h p loose ((decl_at names, declarators_row ds) ∷ (expr_at items, exprs_row xs) ∷ rest)) where
   pub step_wanted : (d || leads (get_or h.exprs items blank_expr).next) ≡ false
-      → Stepped h h p loose rest names items false ds xs (leading_step d xs k ds)
+      → Stepped h h p loose rest names items None ds xs (leading_step d xs k ds)
   step_wanted z = rested ds xs (leading_step d xs k ds) (wanted_rests h items d xs k ds o.short o.held.1.0 z) (stays o)
 
   pub step_other : ((n : ℕ) → (get_or h.exprs items blank_expr).kind ≡ expression.Assignment n → ⊥)
-      → Stepped h h p loose rest names items false ds xs (leading_step d xs k ds)
+      → Stepped h h p loose rest names items None ds xs (leading_step d xs k ds)
   step_other n =
       rested ds xs (leading_step d xs k ds) (other_rests d xs k ds (λ m z. n m (kind_of_first xs (pick 1 o) ∙ z))) (stays o)
 
@@ -126,38 +130,41 @@ open_assignment : {h : Heap} {p : Pools} {loose : List Place} {rest : List Root}
     ∷ (expr_at (get_or h.exprs items blank_expr).next, w) ∷ rest)
 open_assignment ds n e w o = arrange (2 ∷ 0 ∷ []) (open_expr (assignment n e) w (pick 1 o))
 
-module _ {h h₁ : Heap} {p : Pools} {loose : List Place} {rest : List Root} {names items : ℕ} (d : Bool) (k : DeclarationKind) (n : ℕ) (xs : Exprs) (ds : Declarators)
+module _ {h h₁ : Heap} {p : Pools} {loose : List Place} {rest : List Root} {names items : ℕ}
+    (d : Bool) (k : DeclarationKind) (n : ℕ) (xs : Exprs) (ds : Declarators)
     (is : expression.Assignment n ≡ (get_or h.exprs items blank_expr).kind)
     (may : (d || leads (get_or h.exprs items blank_expr).next) ≡ true)
     (o : Owns h p loose ((decl_at names, declarators_row ds) ∷ (expr_at items, exprs_row xs) ∷ rest)) where
   -- no declarator takes it
   pub step_refused : Merges h h₁ p false k n names (get_or h.exprs items blank_expr).first
-      → Stepped h h₁ p loose rest names items false ds xs (leading_step d xs k ds)
+      → Stepped h h₁ p loose rest names items None ds xs (leading_step d xs k ds)
   step_refused merges =
       let q = assignment_first xs n (is ∙ kind_of_first xs (pick 1 o)) in
       subst (λ (v : Exprs). Owns h p loose ((decl_at names, declarators_row ds) ∷ (expr_at items, exprs_row v) ∷ rest)
-      → Stepped h h₁ p loose rest names items false ds v (leading_step d v k ds))
+      → Stepped h h₁ p loose rest names items None ds v (leading_step d v k ds))
       (sym q.2) (by q.0 q.1) o
     where
       none : (g : Merge) (e : Expr) (w : Row) (loose' : List Place) → false ≡ is_merged g
-          → Moved h h₁ p loose' (merged_roots names ds (get_or h.exprs items blank_expr).first e g ((expr_at (get_or h.exprs items blank_expr).next, w) ∷ rest))
+          → Moved h h₁ p loose'
+          (merged_roots names ds (get_or h.exprs items blank_expr).first e g ((expr_at (get_or h.exprs items blank_expr).next, w) ∷ rest))
           → Moved h h₁ p loose' ((expr_at (get_or h.exprs items blank_expr).first, expr_row e end) ∷ (expr_at (get_or h.exprs items blank_expr).next, w)
           ∷ (decl_at names, declarators_row ds) ∷ rest)
-      none (merged ds') e w loose' z m = let y : ◌≡◌ {A = ℕ} 0 1 = cc in absurd (omega arith)
+      none (merged ds') e w loose' z m = cc
       none blocked e w loose' z m = regroup m (λ o₁. arrange (1 ∷ 1 ∷ []) o₁)
       none clear e w loose' z m = regroup m (λ o₁. arrange (1 ∷ 1 ∷ []) o₁)
 
       rests_so : (g : Merge) (ys : Exprs) → false ≡ is_merged g → step_merged g ys ≡ rests
-      rests_so (merged ds') ys z = let y : ◌≡◌ {A = ℕ} 0 1 = cc in absurd (omega arith)
+      rests_so (merged ds') ys z = cc
       rests_so blocked ys z = refl
       rests_so clear ys z = refl
 
       by : (e : Expr) (xs' : Exprs)
           → Owns h p loose ((decl_at names, declarators_row ds) ∷ (expr_at items, exprs_row (expr_then (assignment n e) xs')) ∷ rest)
-          → Stepped h h₁ p loose rest names items false ds (expr_then (assignment n e) xs') (leading_step d (expr_then (assignment n e) xs') k ds)
+          → Stepped h h₁ p loose rest names items None ds (expr_then (assignment n e) xs') (leading_step d (expr_then (assignment n e) xs') k ds)
       by e xs' o₀ =
           let g = merge_assignment_to_declaration k ds n e in
-          let c = merges ds e (expr_at items ∷ loose) ((expr_at (get_or h.exprs items blank_expr).next, exprs_row xs') ∷ rest) (open_assignment ds n e (exprs_row xs') o₀) in
+          let c = merges ds e (expr_at items ∷ loose) ((expr_at (get_or h.exprs items blank_expr).next, exprs_row xs') ∷ rest)
+          (open_assignment ds n e (exprs_row xs') o₀) in
           let m = inside_expr (assignment n e) (assignment n e) (exprs_row xs') (exprs_row xs') refl (pick 1 o₀)
           (λ o₁. none g e (exprs_row xs') (expr_at items ∷ loose) c.0 c.1) in
           rested ds (expr_then (assignment n e) xs') (leading_step d (expr_then (assignment n e) xs') k ds)
@@ -167,28 +174,29 @@ module _ {h h₁ : Heap} {p : Pools} {loose : List Place} {rest : List Root} {na
   -- one took it, and the assignment's record was given back
   pub step_taken : {h₂ : Heap} {p₂ : Pools} → Merges h h₁ p true k n names (get_or h.exprs items blank_expr).first
       → ((roots : List Root) → Owns h₁ p (expr_at items ∷ loose) roots → Moved h₁ h₂ p₂ loose roots)
-      → Stepped h h₂ p₂ loose rest names (get_or h.exprs items blank_expr).next true ds xs (leading_step d xs k ds)
+      → Stepped h h₂ p₂ loose rest names items (Some (get_or h.exprs items blank_expr).next) ds xs (leading_step d xs k ds)
   step_taken {h₂} {p₂} merges gives =
       let q = assignment_first xs n (is ∙ kind_of_first xs (pick 1 o)) in
       subst (λ (v : Exprs). Owns h p loose ((decl_at names, declarators_row ds) ∷ (expr_at items, exprs_row v) ∷ rest)
-      → Stepped h h₂ p₂ loose rest names (get_or h.exprs items blank_expr).next true ds v (leading_step d v k ds))
+      → Stepped h h₂ p₂ loose rest names items (Some (get_or h.exprs items blank_expr).next) ds v (leading_step d v k ds))
       (sym q.2) (by q.0 q.1) o
     where
       takes_so : (g : Merge) (e : Expr) (xs' : Exprs) (ys : Exprs) → true ≡ is_merged g
           → Moved h h₁ p (expr_at items ∷ loose)
           (merged_roots names ds (get_or h.exprs items blank_expr).first e g ((expr_at (get_or h.exprs items blank_expr).next, exprs_row xs') ∷ rest))
-          → Stepped h h₂ p₂ loose rest names (get_or h.exprs items blank_expr).next true ds ys (step_merged g xs')
+          → Stepped h h₂ p₂ loose rest names items (Some (get_or h.exprs items blank_expr).next) ds ys (step_merged g xs')
       takes_so (merged ds') e xs' ys z m =
           let w = gives _ m.owned in (refl, record { owned = w.owned; kept = kept_both (kept_others m.kept) w.kept })
-      takes_so blocked e xs' ys z m = let y : ◌≡◌ {A = ℕ} 0 1 = cc in absurd (omega arith)
-      takes_so clear e xs' ys z m = let y : ◌≡◌ {A = ℕ} 0 1 = cc in absurd (omega arith)
+      takes_so blocked e xs' ys z m = cc
+      takes_so clear e xs' ys z m = cc
 
       by : (e : Expr) (xs' : Exprs)
           → Owns h p loose ((decl_at names, declarators_row ds) ∷ (expr_at items, exprs_row (expr_then (assignment n e) xs')) ∷ rest)
-          → Stepped h h₂ p₂ loose rest names (get_or h.exprs items blank_expr).next true ds (expr_then (assignment n e) xs')
+          → Stepped h h₂ p₂ loose rest names items (Some (get_or h.exprs items blank_expr).next) ds (expr_then (assignment n e) xs')
           (leading_step d (expr_then (assignment n e) xs') k ds)
       by e xs' o₀ =
           let g = merge_assignment_to_declaration k ds n e in
-          let c = merges ds e (expr_at items ∷ loose) ((expr_at (get_or h.exprs items blank_expr).next, exprs_row xs') ∷ rest) (open_assignment ds n e (exprs_row xs') o₀) in
-          subst (λ (s : Step). Stepped h h₂ p₂ loose rest names (get_or h.exprs items blank_expr).next true ds (expr_then (assignment n e) xs') s)
+          let c = merges ds e (expr_at items ∷ loose) ((expr_at (get_or h.exprs items blank_expr).next, exprs_row xs') ∷ rest)
+          (open_assignment ds n e (exprs_row xs') o₀) in
+          subst (λ (s : Step). Stepped h h₂ p₂ loose rest names items (Some (get_or h.exprs items blank_expr).next) ds (expr_then (assignment n e) xs') s)
           (sym (assignment_step h items d n e xs' k ds o₀.short o₀.held.1.0 may)) (takes_so g e xs' (expr_then (assignment n e) xs') c.0 c.1)

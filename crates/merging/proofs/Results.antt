@@ -30,7 +30,7 @@ kind_of_newest (stmt_then x r) o = kind_of_stmt x (stmts_row r) o
 -- expressions
 
 pub expression_newest : (r : Stmts) → statement.Expression ≡ newest_kind r → (e : Expr) × (r' : Stmts) × (r ≡ stmt_then (expression e) r')
-expression_newest no_stmts k = let z : ◌≡◌ {A = ℕ} 0 1 = cc in absurd (omega arith)
+expression_newest no_stmts k = cc
 expression_newest (stmt_then x r) k = let q = stmt_of_kind x k in (q.0, r, ap (λ v. stmt_then v r) q.1)
 
 pub no_expression_newest : (r : Stmts) → (newest_kind r ≡ statement.Expression → ⊥) → last_expression? true r ≡ no_last_expression
@@ -53,7 +53,7 @@ no_expression_newest (stmt_then continue r) n = refl
 
 pub declaration_newest : (r : Stmts) (k : DeclarationKind) → statement.Declaration k ≡ newest_kind r
     → (ds : Declarators) × (r' : Stmts) × (r ≡ stmt_then (declaration k ds) r')
-declaration_newest no_stmts k e = let z : ◌≡◌ {A = ℕ} 0 1 = cc in absurd (omega arith)
+declaration_newest no_stmts k e = cc
 declaration_newest (stmt_then x r) k e = let q = stmt_of_kind x e in (q.0, r, ap (λ v. stmt_then v r) q.1)
 
 pub no_declaration_newest : (r : Stmts) → ((k : DeclarationKind) → newest_kind r ≡ statement.Declaration k → ⊥)

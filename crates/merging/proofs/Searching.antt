@@ -1,5 +1,6 @@
 -- The walk along the declarators finds the one that the rule merges into.
-use Rattle.std.proofs.Common.{◌≡◌, ℕ, ◌+◌, ◌<◌, ◌≤◌, Bool, true, false, cond, not, eqb, ◌≢◌, List, [], ◌∷◌, length, get_or, set, sym, refl, ap, ◌∙◌, subst, arith, eq-eqb, ne_eqb}
+use Rattle.std.proofs.Common.{◌≡◌, ℕ, ◌+◌, ◌<◌, ◌≤◌, Bool, true, false, cond, not, eqb, ◌≢◌, List, [], ◌∷◌, length, Option, None, Some, get_or, set}
+use Rattle.std.proofs.Common.{sym, refl, ap, ◌∙◌, subst, arith, eq-eqb, ne_eqb}
 use Rattle.pool.specs.Chain.{nowhere}
 use Rattle.script.specs.declared.DeclarationKind.{DeclarationKind}
 use Rattle.script.specs.declared.DeclarationKind.TheVariants.{Const, Let, Var}
@@ -33,40 +34,40 @@ value_leads h i (present e) s a =
     let w = expr_within h i e end a in
     ap not (ne_eqb i nowhere (λ z. let l = s.exprs in omega arith))
 
-place_step : (f : ℕ) (later here : Searched) → place_or f (later_or later here) ≡ place_or (place_or f here) later
+place_step : (f : Option ℕ) (later here : Searched) → place_or f (later_or later here) ≡ place_or (place_or f here) later
 place_step f passed here = refl
 place_step f stopped here = refl
 place_step f (found j) here = refl
 
 -- n declarators of the row are passed; with what was found among them, the others lead to the same
-abbrev pub Along : List DeclRecord → DeclarationKind → Bool → ℕ → ℕ → ℕ → ℕ → ℕ → Type 0
+abbrev pub Along : List DeclRecord → DeclarationKind → Bool → ℕ → ℕ → ℕ → Option ℕ → ℕ → Type 0
 Along decls k l name names at f n =
     (es : List ExprRecord) (ss : List StmtRecord) (ds : Declarators) → Short (tables es ss decls)
     → At (tables es ss decls) (decl_at names) (declarators_row ds)
     → (ds' : Declarators) × At (tables es ss decls) (decl_at at) (declarators_row ds')
-    × (place_or f (searched decls k l name ds' at) ≡ place_or nowhere (searched decls k l name ds names))
+    × (place_or f (searched decls k l name ds' at) ≡ place_or None (searched decls k l name ds names))
     × ((records_declarators ds').decls + n ≡ (records_declarators ds).decls)
 
-module _ (decls : List DeclRecord) (k : DeclarationKind) (l : Bool) (name names at f n : ℕ) (inv : Along decls k l name names at f n) where
+module _ (decls : List DeclRecord) (k : DeclarationKind) (l : Bool) (name names at : ℕ) (f : Option ℕ) (n : ℕ) (inv : Along decls k l name names at f n) where
   -- no declarator is left
   pub at_last : at ≡ nowhere → (es : List ExprRecord) (ss : List StmtRecord) (ds : Declarators) → Short (tables es ss decls)
-      → At (tables es ss decls) (decl_at names) (declarators_row ds) → f ≡ place_or nowhere (searched decls k l name ds names)
+      → At (tables es ss decls) (decl_at names) (declarators_row ds) → f ≡ place_or None (searched decls k l name ds names)
   at_last z es ss ds s a = let q = inv es ss ds s a in by q.0 q.1 q.2
     where
       by : (ds' : Declarators) → At (tables es ss decls) (decl_at at) (declarators_row ds')
-          → place_or f (searched decls k l name ds' at) ≡ place_or nowhere (searched decls k l name ds names)
-          → f ≡ place_or nowhere (searched decls k l name ds names)
+          → place_or f (searched decls k l name ds' at) ≡ place_or None (searched decls k l name ds names)
+          → f ≡ place_or None (searched decls k l name ds names)
       by no_declarators b e = e
       by (declarator_then m v ds') b e = let w = b.0 in let u = s.decls in absurd (omega arith)
 
   -- as many turns as there are records are enough
   pub ran_out : (es : List ExprRecord) (ss : List StmtRecord) (ds : Declarators) → Short (tables es ss decls)
       → At (tables es ss decls) (decl_at names) (declarators_row ds) → (records_declarators ds).decls ≤ n
-      → f ≡ place_or nowhere (searched decls k l name ds names)
+      → f ≡ place_or None (searched decls k l name ds names)
   ran_out es ss ds s a c = let q = inv es ss ds s a in by q.0 q.2 q.3
     where
-      by : (ds' : Declarators) → place_or f (searched decls k l name ds' at) ≡ place_or nowhere (searched decls k l name ds names)
-          → (records_declarators ds').decls + n ≡ (records_declarators ds).decls → f ≡ place_or nowhere (searched decls k l name ds names)
+      by : (ds' : Declarators) → place_or f (searched decls k l name ds' at) ≡ place_or None (searched decls k l name ds names)
+          → (records_declarators ds').decls + n ≡ (records_declarators ds).decls → f ≡ place_or None (searched decls k l name ds names)
       by no_declarators e m = e
       by (declarator_then x v ds') e m = absurd (omega arith)
 
@@ -75,7 +76,8 @@ module _ (decls : List DeclRecord) (k : DeclarationKind) (l : Bool) (name names 
       → Along decls k l name names d.next (place_or f (searched_here k l (eqb d.name name) (leads d.value) at)) (n + 1)
   one_along d z ne es ss ds s a =
       subst (λ (y : DeclRecord). (ds' : Declarators) × At (tables es ss decls) (decl_at y.next) (declarators_row ds')
-      × (place_or (place_or f (searched_here k l (eqb y.name name) (leads y.value) at)) (searched decls k l name ds' y.next) ≡ place_or nowhere (searched decls k l name ds names))
+      × (place_or (place_or f (searched_here k l (eqb y.name name) (leads y.value) at)) (searched decls k l name ds' y.next)
+      ≡ place_or None (searched decls k l name ds names))
       × ((records_declarators ds').decls + (n + 1) ≡ (records_declarators ds).decls))
       (sym z) (let q = inv es ss ds s a in by q.0 q.1 q.2 q.3)
     where
@@ -83,10 +85,11 @@ module _ (decls : List DeclRecord) (k : DeclarationKind) (l : Bool) (name names 
       y = get_or decls at blank_decl
 
       by : (ds' : Declarators) → At (tables es ss decls) (decl_at at) (declarators_row ds')
-          → place_or f (searched decls k l name ds' at) ≡ place_or nowhere (searched decls k l name ds names)
+          → place_or f (searched decls k l name ds' at) ≡ place_or None (searched decls k l name ds names)
           → (records_declarators ds').decls + n ≡ (records_declarators ds).decls
           → (ds'' : Declarators) × At (tables es ss decls) (decl_at y.next) (declarators_row ds'')
-          × (place_or (place_or f (searched_here k l (eqb y.name name) (leads y.value) at)) (searched decls k l name ds'' y.next) ≡ place_or nowhere (searched decls k l name ds names))
+          × (place_or (place_or f (searched_here k l (eqb y.name name) (leads y.value) at)) (searched decls k l name ds'' y.next)
+          ≡ place_or None (searched decls k l name ds names))
           × ((records_declarators ds'').decls + (n + 1) ≡ (records_declarators ds).decls)
       by no_declarators b e c = absurd (ne b)
       by (declarator_then m v ds') b e c =
@@ -181,7 +184,7 @@ declarators_fit {h} ds o =
 
 module _ {h : Heap} {p : Pools} {loose : List Place} {rest : List Root} {names value : ℕ} (ds : Declarators) (e : Expr)
     (o : Owns h p loose ((decl_at names, declarators_row ds) ∷ (expr_at value, expr_row e end) ∷ rest)) where
-  none_by : (s : Searched) (g : Merge) → Agrees h names ds e s g → place_or nowhere s ≡ nowhere
+  none_by : (s : Searched) (g : Merge) → Agrees h names ds e s g → None ≡ place_or None s
       → (false ≡ is_merged g) × Moved h h p loose (merged_roots names ds value e g rest)
   none_by passed (merged ds') a z = absurd a
   none_by passed blocked a z = absurd a
@@ -189,32 +192,29 @@ module _ {h : Heap} {p : Pools} {loose : List Place} {rest : List Root} {names v
   none_by stopped (merged ds') a z = absurd a
   none_by stopped blocked a z = (refl, stays o)
   none_by stopped clear a z = absurd a
-  none_by (found j) (merged ds') a z = let w = a.0 in let s = o.short.decls in absurd (omega arith)
+  none_by (found j) (merged ds') a z = cc
   none_by (found j) blocked a z = absurd a
   none_by (found j) clear a z = absurd a
 
-  found_by : (s : Searched) (g : Merge) → Agrees h names ds e s g → place_or nowhere s ≢ nowhere
-      → (true ≡ is_merged g) × Moved h (valued h (place_or nowhere s) value) p loose (merged_roots names ds value e g rest)
-  found_by passed (merged ds') a z = absurd a
-  found_by passed blocked a z = absurd a
-  found_by passed clear a z = absurd (z refl)
-  found_by stopped (merged ds') a z = absurd a
-  found_by stopped blocked a z = absurd (z refl)
-  found_by stopped clear a z = absurd a
-  found_by (found j) (merged ds') a z = (refl, a.1 value p loose rest o)
-  found_by (found j) blocked a z = absurd a
-  found_by (found j) clear a z = absurd a
+  found_by : (at : ℕ) (s : Searched) (g : Merge) → Agrees h names ds e s g → Some at ≡ place_or None s
+      → (true ≡ is_merged g) × Moved h (valued h at value) p loose (merged_roots names ds value e g rest)
+  found_by at passed (merged ds') a z = absurd a
+  found_by at passed blocked a z = absurd a
+  found_by at passed clear a z = cc
+  found_by at stopped (merged ds') a z = absurd a
+  found_by at stopped blocked a z = cc
+  found_by at stopped clear a z = absurd a
+  found_by at (found j) (merged ds') a z = let y : at ≡ j = cc in rw y (refl, a.1 value p loose rest o)
+  found_by at (found j) blocked a z = absurd a
+  found_by at (found j) clear a z = absurd a
 
-  pub none_found : (k : DeclarationKind) (l : Bool) (n at : ℕ) → at ≡ place_or nowhere (searched h.decls k l n ds names) → at ≡ nowhere
+  pub none_found : (k : DeclarationKind) (l : Bool) (n : ℕ) → None ≡ place_or None (searched h.decls k l n ds names)
       → (false ≡ is_merged (merge_into_declarators k l n e ds)) × Moved h h p loose (merged_roots names ds value e (merge_into_declarators k l n e ds) rest)
-  none_found k l n at z y =
-      none_by (searched h.decls k l n ds names) (merge_into_declarators k l n e ds) (agrees h k l n e ds names o.held.0) (sym z ∙ y)
+  none_found k l n z =
+      none_by (searched h.decls k l n ds names) (merge_into_declarators k l n e ds) (agrees h k l n e ds names o.held.0) z
 
-  pub one_found : (k : DeclarationKind) (l : Bool) (n at : ℕ) → at ≡ place_or nowhere (searched h.decls k l n ds names) → at ≢ nowhere
+  pub one_found : (k : DeclarationKind) (l : Bool) (n at : ℕ) → Some at ≡ place_or None (searched h.decls k l n ds names)
       → (true ≡ is_merged (merge_into_declarators k l n e ds))
       × Moved h (valued h at value) p loose (merged_roots names ds value e (merge_into_declarators k l n e ds) rest)
-  one_found k l n at z ne =
-      subst (λ (i : ℕ). (true ≡ is_merged (merge_into_declarators k l n e ds))
-      × Moved h (valued h i value) p loose (merged_roots names ds value e (merge_into_declarators k l n e ds) rest))
-      (sym z)
-      (found_by (searched h.decls k l n ds names) (merge_into_declarators k l n e ds) (agrees h k l n e ds names o.held.0) (λ y. ne (z ∙ y)))
+  one_found k l n at z =
+      found_by at (searched h.decls k l n ds names) (merge_into_declarators k l n e ds) (agrees h k l n e ds names o.held.0) z

@@ -25,8 +25,8 @@ Works h p h' p' f target results target' results' =
     ((expr_at target', optional_row (f e r).target end) ∷ (stmt_at results', stmts_row (f e r).results) ∷ [])
 
 -- an expression that was merged with the last one is there, and goes through a further rule
-pub worked_next : {h h' : Heap} {p p' : Pools} {loose : List Place} {rest : List Root} {target results target' results' : ℕ} {r : Stmts} (v : LastExpression? r) (e : Expr)
-    (f : Expr → Stmts → Worked) → Works h p h' p' f target results target' results'
+pub worked_next : {h h' : Heap} {p p' : Pools} {loose : List Place} {rest : List Root} {target results target' results' : ℕ} {r : Stmts}
+    (v : LastExpression? r) (e : Expr) (f : Expr → Stmts → Worked) → Works h p h' p' f target results target' results'
     → Owns h p loose
     ((expr_at target, optional_row (merge_last_expression_as v e).target end) ∷ (stmt_at results, stmts_row (merge_last_expression_as v e).results) ∷ rest)
     → Moved h h' p' loose

@@ -1,19 +1,12 @@
 -- The rule on declarations in two parts: the first declarator's value, and the joining of declarations.
-use Rattle.std.specs.Prelude.{ℕ, Bool, false, ◌&&◌, List, slice_index_or}
+use Rattle.std.specs.Prelude.{Bool, false, ◌&&◌}
 use Rattle.script.specs.declared.DeclarationKind.{DeclarationKind}
 use Rattle.script.specs.declared.StatementKind.{StatementKind}
 use Rattle.script.specs.declared.StatementKind.TheVariants as statement
 use Rattle.script.specs.Tree.{Declarators, Stmts, absent, declarator_then, no_declarators, present}
-use Rattle.records.specs.declared.record.DeclRecord.{DeclRecord}
-use Rattle.records.specs.Heap.{blank_decl}
 use Rattle.rules.specs.Equal.{same_kind}
 use Rattle.rules.specs.Merging.{Worked, merge_leading_assignments_to_declaration}
 use Rattle.rules.specs.Returns.{value_or_void_0}
-
--- the place of the last declarator of a row, whose first is at a place and has these behind it
-abbrev pub last_declarator : List DeclRecord → Declarators → ℕ → ℕ
-last_declarator decls no_declarators i = i
-last_declarator decls (declarator_then n v ds) i = last_declarator decls ds (slice_index_or decls i blank_decl).next
 
 -- declarators, and the results before them
 pub record Declared : Type 0 where

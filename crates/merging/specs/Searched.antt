@@ -1,5 +1,5 @@
 -- The search for the declarator that takes an assigned value. It goes from the last declarator to the first.
-use Rattle.std.specs.Prelude.{ℕ, Bool, true, false, cond, not, List, ◌∷◌, ◌==◌, slice_index_or}
+use Rattle.std.specs.Prelude.{ℕ, Bool, true, false, cond, not, List, ◌∷◌, ◌==◌, slice_index_or, Option, None, Some}
 use Rattle.pool.specs.Chain.{nowhere}
 use Rattle.script.specs.declared.DeclarationKind.{DeclarationKind}
 use Rattle.script.specs.declared.DeclarationKind.TheVariants.{Const, Let, Var}
@@ -38,11 +38,11 @@ searched decls k l n no_declarators i = passed
 searched decls k l n (declarator_then m v ds) i =
     later_or (searched decls k l n ds (slice_index_or decls i blank_decl).next) (searched_here k l (m == n) (is_present v) i)
 
--- the place where it stopped, or the one found among the declarators before
-abbrev pub place_or : ℕ → Searched → ℕ
+-- the place that it found, none where it stopped, or what was found among the declarators before
+abbrev pub place_or : Option ℕ → Searched → Option ℕ
 place_or f passed = f
-place_or f stopped = nowhere
-place_or f (found j) = j
+place_or f stopped = None
+place_or f (found j) = Some j
 
 -- does the link lead to a value
 abbrev pub leads : ℕ → Bool

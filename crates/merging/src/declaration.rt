@@ -1,4 +1,5 @@
 // Declarations.
+// A routine is lent the tables that it works on and no others: those are known to stay with no clause.
 ghost use Rattle.std.specs.Prelude.{◌≡◌, List, [], ◌∷◌};
 ghost use Rattle.script.specs.Tree.{Declarators, Stmts, declaration};
 ghost use Rattle.records.specs.declared.record.ExprRecord.{ExprRecord as ExprEntry};
@@ -6,39 +7,23 @@ ghost use Rattle.records.specs.Embedding.{declarators_row, stmts_row};
 ghost use Rattle.records.specs.Heap.{decl_at, stmt_at};
 ghost use Rattle.records.specs.Readable.{tables};
 ghost use Rattle.rules.specs.Declarations.{handle_variable_declaration, join_declarations};
-ghost use Rattle.rules.specs.Equal.{same_kind};
 ghost use Rattle.rules.specs.Merging.{last_declaration?};
+ghost use Rattle.moves.specs.Lent.{Makes, SameSlices};
 ghost use Rattle.moves.specs.Moved.{Turns};
 ghost use Rattle.joining.specs.Needs.{EnoughFor};
 ghost use Rattle.merging.specs.Declaring.{first_worked, joins};
 
 use crate::leading::merge_leading_assignments_to_declaration;
-use crate::names::append_names;
-use moves::{decl_at, give, set, stmt_at};
+use moves::{Tables, give, join_rows, record_at, set};
 use pool::NOWHERE;
 use records::{DeclRecord, ExprRecord, Pools, StmtRecord};
 use script::{DeclarationKind, StatementKind};
-
-fn same_kind(a: DeclarationKind, b: DeclarationKind) -> bool
-    ensures { result ≡ same_kind a b }
-{
-    match (a, b) {
-        (DeclarationKind::Var, DeclarationKind::Var) => true,
-        (DeclarationKind::Let, DeclarationKind::Let) => true,
-        (DeclarationKind::Const, DeclarationKind::Const) => true,
-        _ => false,
-    }
-}
 
 // Is the newest result a declaration of this kind, and are such declarations joined.
 fn may_join(join_vars: bool, newest: StatementKind, kind: DeclarationKind) -> bool
     ensures { result ≡ joins join_vars newest kind }
 {
-    if let StatementKind::Declaration(before) = newest {
-        let same = same_kind(before, kind);
-        return join_vars && same;
-    }
-    false
+    join_vars && newest == StatementKind::Declaration(kind)
 }
 
 // Merges the leading assignments of the first declarator's value into the newest result, and tells what the results are.
@@ -59,7 +44,7 @@ fn merge_first_value(
     if names == NOWHERE {
         return results;
     }
-    let first = decl_at(decls, names);
+    let first = record_at(decls, names);
     if first.value == NOWHERE {
         return results;
     }
@@ -76,9 +61,8 @@ fn merge_first_value(
         decls,
         names,
         DeclRecord {
-            name: first.name,
             value: worked.target,
-            next: first.next,
+            ..first
         },
     );
     worked.results
@@ -100,18 +84,15 @@ fn join_declarations(
         (stmt_at at ∷ []) ((decl_at names, declarators_row ds) ∷ (stmt_at results, stmts_row r) ∷ [])
         ((stmt_at result, stmts_row (join_declarations join_vars kind ds (last_declaration? r))) ∷ []) }
 {
-    let newest = stmt_at(stmts, results);
+    let newest = record_at(stmts, results);
     if may_join(join_vars, newest.kind, kind) {
-        let row = append_names(decls, newest.decls, names);
+        let row = join_rows(decls, newest.decls, names);
         set(
             stmts,
             results,
             StmtRecord {
-                kind: newest.kind,
-                exprs: newest.exprs,
-                stmts: newest.stmts,
                 decls: row,
-                next: newest.next,
+                ..newest
             },
         );
         give(&mut pools.stmts, stmts, at);
@@ -134,21 +115,36 @@ fn join_declarations(
 // Puts a declaration onto the results.
 pub fn handle_variable_declaration(
     join_vars: bool,
-    exprs: &mut [ExprRecord],
-    stmts: &mut [StmtRecord],
-    decls: &mut [DeclRecord],
-    pools: &mut Pools,
+    tables: &mut Tables,
     at: u32,
     kind: DeclarationKind,
     names: u32,
     results: u32,
 ) -> u32
-    ensures { (ds : Declarators) (r : Stmts) → EnoughFor (declaration kind ds) r pools.old →
-        Turns (tables exprs.old stmts.old decls.old) pools.old
-        (tables exprs.new stmts.new decls.new) pools.new
+    ensures lent { SameSlices tables.old tables.new }
+    ensures makes { (ds : Declarators) (r : Stmts) → EnoughFor (declaration kind ds) r tables.old.pools →
+        Makes tables.old tables.new
         (stmt_at at ∷ []) ((decl_at names, declarators_row ds) ∷ (stmt_at results, stmts_row r) ∷ [])
         ((stmt_at result, stmts_row (handle_variable_declaration join_vars kind ds r)) ∷ []) }
 {
-    let before = merge_first_value(exprs, stmts, decls, pools, names, results);
-    join_declarations(join_vars, stmts, decls, pools, at, kind, names, before)
+    // Read beside what is written, the statements are borrowed by themselves.
+    let stmts = &mut *tables.stmts;
+    let before = merge_first_value(
+        tables.exprs,
+        stmts,
+        tables.decls,
+        &mut tables.pools,
+        names,
+        results,
+    );
+    join_declarations(
+        join_vars,
+        tables.stmts,
+        tables.decls,
+        &mut tables.pools,
+        at,
+        kind,
+        names,
+        before,
+    )
 }

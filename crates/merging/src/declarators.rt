@@ -1,8 +1,8 @@
 // The declarator that takes an assigned value. The search goes from the last declarator back, and stops at one that has a
 // value, at one of the assigned name, and at any in a let or const. Rows are linked from the first on: so a walk forward
 // keeps what the last stop says.
-ghost use Rattle.std.specs.Prelude.{◌≡◌, ◌≤◌, List, ◌∷◌, length, ◌==◌};
-ghost use Rattle.pool.specs.Chain.{nowhere};
+// A routine is lent the tables that it works on and no others: those are known to stay with no clause.
+ghost use Rattle.std.specs.Prelude.{◌≡◌, ◌≤◌, List, ◌∷◌, length, ◌==◌, None};
 ghost use Rattle.script.specs.Sound.{records_declarators};
 ghost use Rattle.script.specs.Tree.{Declarators, Expr};
 ghost use Rattle.records.specs.declared.record.ExprRecord.{ExprRecord as ExprEntry};
@@ -17,7 +17,7 @@ ghost use Rattle.rules.specs.Merging.{merge_assignment_to_declaration, mergeable
 ghost use Rattle.moves.specs.Moved.{Moved};
 ghost use Rattle.merging.specs.Searched.{is_merged, leads, merged_roots, place_or, searched, searched_here};
 
-use moves::{decl_at, set};
+use moves::{record_at, set};
 use pool::NOWHERE;
 use predicates::is_literal_value;
 use records::{DeclRecord, ExprRecord};
@@ -34,53 +34,50 @@ fn may_take(kind: DeclarationKind, literal: bool) -> bool
     }
 }
 
-// What is found at one declarator, if the search comes so far: itself, NOWHERE, or what is found before it.
+// What is found at one declarator, if the search comes so far: itself, none, or what is found before it.
 fn look(
     kind: DeclarationKind,
     literal: bool,
     name: u8,
     decl: DeclRecord,
     at: u32,
-    before: u32,
-) -> u32
+    before: Option<u32>,
+) -> Option<u32>
     ensures { result ≡ place_or before (searched_here kind literal (decl.name == name) (leads decl.value) at) }
 {
     if decl.value != NOWHERE {
-        return NOWHERE;
+        return None;
     }
     if decl.name == name {
-        if may_take(kind, literal) {
-            return at;
-        }
-        return NOWHERE;
+        return may_take(kind, literal).then_some(at);
     }
     match kind {
         DeclarationKind::Var => before,
-        DeclarationKind::Let => NOWHERE,
-        DeclarationKind::Const => NOWHERE,
+        DeclarationKind::Let | DeclarationKind::Const => None,
     }
 }
 
-// The declarator that takes the value, or NOWHERE.
+// The declarator that takes the value.
 fn find_declarator(
     kind: DeclarationKind,
     literal: bool,
     name: u8,
     decls: &[DeclRecord],
     names: u32,
-) -> u32
+) -> Option<u32>
     ensures { (es : List ExprEntry) (ss : List StmtEntry) (ds : Declarators) →
         Short (tables es ss decls.now) → At (tables es ss decls.now) (decl_at names) (declarators_row ds) →
         (records_declarators ds).decls ≤ length decls.now →
-        result ≡ place_or nowhere (searched decls.now kind literal name ds names) }
+        result ≡ place_or None (searched decls.now kind literal name ds names) }
 {
     let mut at = names;
-    let mut found = NOWHERE;
-    for _i in 0..decls.len() {
+    let mut found = None;
+    // A row has no more records than its table.
+    for _ in 0..decls.len() {
         if at == NOWHERE {
             return found;
         }
-        let decl = decl_at(decls, at);
+        let decl = record_at(decls, at);
         found = look(kind, literal, name, decl, at, found);
         at = decl.next;
     }
@@ -104,19 +101,10 @@ pub fn merge_assignment_to_declaration(
         (merged_roots names ds value e (merge_assignment_to_declaration kind ds name e) rest) }
 {
     let literal = is_literal_value(exprs, value);
-    let at = find_declarator(kind, literal, name, decls, names);
-    if at == NOWHERE {
+    let Some(at) = find_declarator(kind, literal, name, decls, names) else {
         return false;
-    }
-    let decl = decl_at(decls, at);
-    set(
-        decls,
-        at,
-        DeclRecord {
-            name: decl.name,
-            value,
-            next: decl.next,
-        },
-    );
+    };
+    let decl = record_at(decls, at);
+    set(decls, at, DeclRecord { value, ..decl });
     true
 }

@@ -1,4 +1,5 @@
 // An expression and the newest result, where that is an expression statement.
+// A routine is lent the tables that it works on and no others: those are known to stay with no clause.
 ghost use Rattle.std.specs.Prelude.{◌≤◌, List, [], ◌∷◌};
 ghost use Rattle.script.specs.Tree.{Expr, Stmts};
 ghost use Rattle.records.specs.declared.record.DeclRecord.{DeclRecord as DeclEntry};
@@ -11,7 +12,7 @@ ghost use Rattle.moves.specs.Moved.{Turns};
 
 use crate::worked::Worked;
 use joining::join_sequence;
-use moves::{give, set, stmt_at, take};
+use moves::{give, record_at, set, take};
 use pool::NOWHERE;
 use records::{ExprRecord, Pools, StmtRecord};
 use script::StatementKind;
@@ -34,16 +35,16 @@ pub fn merge_last_expression_into_sequence(
     if !sequences {
         return Worked { target, results };
     }
-    let last = stmt_at(stmts, results);
-    if let StatementKind::Expression = last.kind {
-        give(&mut pools.stmts, stmts, results);
-        let joined = join_sequence(exprs, pools, last.exprs, target);
-        return Worked {
-            target: joined,
-            results: last.next,
-        };
+    let last = record_at(stmts, results);
+    let StatementKind::Expression = last.kind else {
+        return Worked { target, results };
+    };
+    give(&mut pools.stmts, stmts, results);
+    let target = join_sequence(exprs, pools, last.exprs, target);
+    Worked {
+        target,
+        results: last.next,
     }
-    Worked { target, results }
 }
 
 // Puts an expression statement onto the results, together with the newest of them if that is one too.

@@ -1,5 +1,6 @@
 // The leading assignments of an expression go into the declaration before it.
-ghost use Rattle.std.specs.Prelude.{◌≡◌, ◌||◌, List, [], ◌∷◌};
+// A routine is lent the tables that it works on and no others: those are known to stay with no clause.
+ghost use Rattle.std.specs.Prelude.{◌≡◌, ◌||◌, List, [], ◌∷◌, is_some, unwrap_or};
 ghost use Rattle.script.specs.Tree.{Declarators, Expr, Exprs, Stmts};
 ghost use Rattle.records.specs.declared.record.DeclRecord.{DeclRecord as DeclEntry};
 ghost use Rattle.records.specs.declared.record.StmtRecord.{StmtRecord as StmtEntry};
@@ -16,17 +17,10 @@ ghost use Rattle.merging.specs.Searched.{leads};
 
 use crate::declarators::merge_assignment_to_declaration;
 use crate::worked::Worked;
-use moves::{expr_at, give, set, stmt_at};
+use moves::{give, record_at, set};
 use pool::NOWHERE;
 use records::{DeclRecord, ExprRecord, Pools, StmtRecord};
 use script::{DeclarationKind, ExpressionKind, StatementKind};
-
-// The items that are left, and whether the first of them was merged.
-#[derive(Clone, Copy)]
-struct Step {
-    items: u32,
-    merged: bool,
-}
 
 // May an item with this behind it go: the last one stays if its value is wanted.
 fn may_go(discarded: bool, next: u32) -> bool
@@ -35,7 +29,7 @@ fn may_go(discarded: bool, next: u32) -> bool
     discarded || next != NOWHERE
 }
 
-// Merges the first item, if it is an assignment that a declarator takes.
+// Merges the first item, if it is an assignment that a declarator takes, and tells what is behind it.
 fn merge_leading_item(
     discarded: bool,
     exprs: &mut [ExprRecord],
@@ -44,39 +38,27 @@ fn merge_leading_item(
     kind: DeclarationKind,
     names: u32,
     items: u32,
-) -> Step
+) -> Option<u32>
     ensures { (ss : List StmtEntry) (xs : Exprs) (ds : Declarators) (loose : List Place) (rest : List Root) →
         Owns (tables exprs.old ss decls.old) pools.old loose
         ((decl_at names, declarators_row ds) ∷ (expr_at items, exprs_row xs) ∷ rest) →
-        (result.merged ≡ has_taken (leading_step discarded xs kind ds))
+        (is_some result ≡ has_taken (leading_step discarded xs kind ds))
         × Moved (tables exprs.old ss decls.old) (tables exprs.new ss decls.new) pools.new loose
         ((decl_at names, declarators_row (declarators_after (leading_step discarded xs kind ds) ds))
-        ∷ (expr_at result.items, exprs_row (items_after (leading_step discarded xs kind ds) xs)) ∷ rest) }
+        ∷ (expr_at (unwrap_or result items), exprs_row (items_after (leading_step discarded xs kind ds) xs)) ∷ rest) }
 {
-    let item = expr_at(exprs, items);
+    let item = record_at(exprs, items);
     if !may_go(discarded, item.next) {
-        return Step {
-            items,
-            merged: false,
-        };
+        return None;
     }
-    if let ExpressionKind::Assignment(name) = item.kind {
-        if merge_assignment_to_declaration(kind, exprs, decls, names, name, item.first) {
-            give(&mut pools.exprs, exprs, items);
-            return Step {
-                items: item.next,
-                merged: true,
-            };
-        }
-        return Step {
-            items,
-            merged: false,
-        };
+    let ExpressionKind::Assignment(name) = item.kind else {
+        return None;
+    };
+    if !merge_assignment_to_declaration(kind, exprs, decls, names, name, item.first) {
+        return None;
     }
-    Step {
-        items,
-        merged: false,
-    }
+    give(&mut pools.exprs, exprs, items);
+    Some(item.next)
 }
 
 // Merges items from the first on, and tells which are left.
@@ -96,12 +78,13 @@ fn merge_leading_items(
         ∷ (expr_at result, exprs_row (merge_leading discarded xs kind ds).items) ∷ []) }
 {
     let mut left = items;
-    for _i in 0..exprs.len() {
-        let step = merge_leading_item(discarded, exprs, decls, pools, kind, names, left);
-        left = step.items;
-        if !step.merged {
+    // A row has no more records than its table.
+    for _ in 0..exprs.len() {
+        let Some(behind) = merge_leading_item(discarded, exprs, decls, pools, kind, names, left)
+        else {
             return left;
-        }
+        };
+        left = behind;
     }
     left
 }
@@ -112,12 +95,7 @@ fn close_sequence(exprs: &mut [ExprRecord], pools: &mut Pools, at: u32, items: u
         Turns (tables exprs.old ss ds) pools.old (tables exprs.new ss ds) pools.new
         (expr_at at ∷ []) ((expr_at items, exprs_row xs) ∷ []) ((expr_at result, optional_row (sequence_of_items xs) end) ∷ []) }
 {
-    if items == NOWHERE {
-        give(&mut pools.exprs, exprs, at);
-        return items;
-    }
-    let item = expr_at(exprs, items);
-    if item.next == NOWHERE {
+    if items == NOWHERE || record_at(exprs, items).next == NOWHERE {
         give(&mut pools.exprs, exprs, at);
         return items;
     }
@@ -149,12 +127,12 @@ fn merge_leading(
         ((decl_at names, declarators_row (merge_leading discarded (items_of (sequence? e)) kind ds).declarators)
         ∷ (expr_at result, optional_row (sequence_of_items (merge_leading discarded (items_of (sequence? e)) kind ds).items) end) ∷ []) }
 {
-    let expr = expr_at(exprs, target);
-    if let ExpressionKind::Sequence = expr.kind {
-        let items = merge_leading_items(discarded, exprs, decls, pools, kind, names, expr.first);
-        return close_sequence(exprs, pools, target, items);
-    }
-    merge_leading_items(discarded, exprs, decls, pools, kind, names, target)
+    let expr = record_at(exprs, target);
+    let ExpressionKind::Sequence = expr.kind else {
+        return merge_leading_items(discarded, exprs, decls, pools, kind, names, target);
+    };
+    let items = merge_leading_items(discarded, exprs, decls, pools, kind, names, expr.first);
+    close_sequence(exprs, pools, target, items)
 }
 
 // Merges the leading assignments of the target into the newest result, if that is a declaration.
@@ -174,13 +152,10 @@ pub fn merge_leading_assignments_to_declaration(
         ((expr_at result.target, optional_row (merge_leading_assignments_to_declaration discarded e r).target end)
         ∷ (stmt_at result.results, stmts_row (merge_leading_assignments_to_declaration discarded e r).results) ∷ []) }
 {
-    let last = stmt_at(stmts, results);
-    if let StatementKind::Declaration(kind) = last.kind {
-        let left = merge_leading(discarded, exprs, decls, pools, kind, last.decls, target);
-        return Worked {
-            target: left,
-            results,
-        };
-    }
+    let last = record_at(stmts, results);
+    let StatementKind::Declaration(kind) = last.kind else {
+        return Worked { target, results };
+    };
+    let target = merge_leading(discarded, exprs, decls, pools, kind, last.decls, target);
     Worked { target, results }
 }

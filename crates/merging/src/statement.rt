@@ -1,4 +1,5 @@
 // Expression statements.
+// A routine is lent the tables that it works on and no others: those are known to stay with no clause.
 ghost use Rattle.std.specs.Prelude.{List, [], ◌∷◌};
 ghost use Rattle.script.specs.Tree.{Expr, OptionalExpr, Stmts, expression};
 ghost use Rattle.records.specs.declared.record.DeclRecord.{DeclRecord as DeclEntry};
@@ -8,14 +9,15 @@ ghost use Rattle.records.specs.Heap.{expr_at, stmt_at};
 ghost use Rattle.records.specs.Readable.{tables};
 ghost use Rattle.records.specs.Rows.{end};
 ghost use Rattle.rules.specs.Merging.{handle_expression_statement, push_optional_expression};
+ghost use Rattle.moves.specs.Lent.{Makes, SameSlices};
 ghost use Rattle.moves.specs.Moved.{Turns};
 ghost use Rattle.joining.specs.Needs.{EnoughFor};
 
 use crate::last::merge_last_expression_into_sequence;
 use crate::leading::merge_leading_assignments_to_declaration;
-use moves::{give, set};
+use moves::{Tables, give, set};
 use pool::NOWHERE;
-use records::{DeclRecord, ExprRecord, Pools, StmtRecord};
+use records::{Pools, StmtRecord};
 use script::StatementKind;
 
 // Puts the target onto the results as a statement; with none the statement's record is given back.
@@ -52,29 +54,41 @@ fn push_worked(
 // Puts an expression statement onto the results: joined to the newest, and its leading assignments merged into a declaration.
 pub fn handle_expression_statement(
     sequences: bool,
-    exprs: &mut [ExprRecord],
-    stmts: &mut [StmtRecord],
-    decls: &mut [DeclRecord],
-    pools: &mut Pools,
+    tables: &mut Tables,
     at: u32,
     expr: u32,
     results: u32,
 ) -> u32
-    ensures { (e : Expr) (r : Stmts) → EnoughFor (expression e) r pools.old →
-        Turns (tables exprs.old stmts.old decls.old) pools.old
-        (tables exprs.new stmts.new decls.new) pools.new
+    ensures lent { SameSlices tables.old tables.new }
+    ensures makes { (e : Expr) (r : Stmts) → EnoughFor (expression e) r tables.old.pools →
+        Makes tables.old tables.new
         (stmt_at at ∷ []) ((expr_at expr, expr_row e end) ∷ (stmt_at results, stmts_row r) ∷ [])
         ((stmt_at result, stmts_row (handle_expression_statement sequences e r)) ∷ []) }
 {
-    let merged = merge_last_expression_into_sequence(sequences, exprs, stmts, pools, expr, results);
+    let merged = merge_last_expression_into_sequence(
+        sequences,
+        tables.exprs,
+        tables.stmts,
+        &mut tables.pools,
+        expr,
+        results,
+    );
+    // Read beside what is written, the statements are borrowed by themselves.
+    let stmts = &mut *tables.stmts;
     let worked = merge_leading_assignments_to_declaration(
         true,
-        exprs,
+        tables.exprs,
         stmts,
-        decls,
-        pools,
+        tables.decls,
+        &mut tables.pools,
         merged.target,
         merged.results,
     );
-    push_worked(stmts, pools, at, worked.target, worked.results)
+    push_worked(
+        tables.stmts,
+        &mut tables.pools,
+        at,
+        worked.target,
+        worked.results,
+    )
 }

@@ -8,6 +8,8 @@ pub mod ByKind
 pub mod Spared
 pub mod Exchanged
 pub mod Chained
-pub mod Fronts
+pub mod Nowhere
+pub mod Tabled
 pub mod Dropping
 pub mod Told
+pub mod Trees

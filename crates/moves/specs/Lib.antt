@@ -5,3 +5,4 @@ pub mod Last
 pub mod ByKind
 pub mod Read
 pub mod Front
+pub mod Lent

@@ -5,7 +5,11 @@
 mod cells;
 mod drops;
 mod links;
+mod table;
+mod tables;
 
-pub use cells::{decl_at, expr_at, give, set, stmt_at, take};
+pub use cells::{give, record_at, set, take};
 pub use drops::{drop_decl_row, drop_expr_row, drop_stmt_row};
-pub use links::{append_row, last_of_row, link_expr, link_stmt};
+pub use links::{append, detach, join_rows, last_of_row, link, push_all, relink};
+pub use table::Record;
+pub use tables::Tables;

@@ -1,70 +1,70 @@
-// Rows of records: one more in front, and the last of a row.
-ghost use Rattle.std.specs.Prelude.{◌≡◌, ◌<◌, List, [], ◌∷◌, length};
-ghost use Rattle.script.specs.Sound.{count_exprs};
-ghost use Rattle.script.specs.Tree.{Expr, Exprs, Stmt};
-ghost use Rattle.records.specs.declared.record.DeclRecord.{DeclRecord as DeclEntry};
-ghost use Rattle.records.specs.declared.record.ExprRecord.{ExprRecord as ExprEntry};
-ghost use Rattle.records.specs.declared.record.Pools.{Pools};
-ghost use Rattle.records.specs.declared.record.StmtRecord.{StmtRecord as StmtEntry};
-ghost use Rattle.records.specs.Embedding.{expr_row, exprs_row, stmt_row};
-ghost use Rattle.records.specs.Heap.{expr_at, stmt_at};
-ghost use Rattle.records.specs.Owned.{Short};
-ghost use Rattle.records.specs.Readable.{tables};
-ghost use Rattle.records.specs.Rows.{At, Row, end};
-ghost use Rattle.moves.specs.Moved.{Turns};
-ghost use Rattle.moves.specs.Last.{exprs_before, last_behind};
+// Rows of one table: a record put in front of another row, a row put behind another, a row turned round.
+ghost use Rattle.std.specs.Prelude.{◌≡◌, ℕ, suc, ◌<◌, ◌≤◌, [], ◌∷◌, map, length};
+ghost use Rattle.pool.specs.Chain.{Chain, nowhere};
+ghost use Rattle.records.specs.Heap.{Label};
+ghost use Rattle.records.specs.Rows.{Row, end, node};
+ghost use Rattle.moves.specs.Front.{in_front, links_on, turned_onto};
+ghost use Rattle.moves.specs.Moved.{TurnsTable};
 
-use crate::cells::{expr_at, set, stmt_at};
+use crate::cells::{record_at, set};
+use crate::table::Record;
 use pool::NOWHERE;
-use records::{ExprRecord, StmtRecord};
 
-// Puts an expression in front of a row.
-pub fn link_expr(exprs: &mut [ExprRecord], at: u32, row: u32)
-    ensures { (ss : List StmtEntry) (ds : List DeclEntry) (p : Pools) (e : Expr) (w : Row) →
-        Turns (tables exprs.old ss ds) p (tables exprs.new ss ds) p
-        [] ((expr_at at, expr_row e end) ∷ (expr_at row, w) ∷ []) ((expr_at at, expr_row e w) ∷ []) }
+// Takes the first record off its row and puts it in front of another; the answer is what was behind it.
+pub fn relink<R: Record>(table: &mut [R], at: u32, row: u32) -> u32
+    ensures { (l : Label) (x y z w v : Row) → TurnsTable R.table_of table.old table.new
+        ((R.table_of.place at, node l x y z w) ∷ (R.table_of.place row, v) ∷ [])
+        ((R.table_of.place result, w) ∷ (R.table_of.place at, node l x y z v) ∷ []) }
 {
-    let expr = expr_at(exprs, at);
-    set(
-        exprs,
-        at,
-        ExprRecord {
-            kind: expr.kind,
-            first: expr.first,
-            next: row,
-        },
-    );
+    let mut record = record_at(table, at);
+    let behind = record.next();
+    record.set_next(row);
+    set(table, at, record);
+    behind
 }
 
-// Puts a statement in front of a row.
-pub fn link_stmt(stmts: &mut [StmtRecord], at: u32, row: u32)
-    ensures { (es : List ExprEntry) (ds : List DeclEntry) (p : Pools) (x : Stmt) (w : Row) →
-        Turns (tables es stmts.old ds) p (tables es stmts.new ds) p
-        [] ((stmt_at at, stmt_row x end) ∷ (stmt_at row, w) ∷ []) ((stmt_at at, stmt_row x w) ∷ []) }
+// Puts a record with nothing behind it in front of a row.
+pub fn link<R: Record>(table: &mut [R], at: u32, row: u32)
+    ensures { (l : Label) (x y z w : Row) → TurnsTable R.table_of table.old table.new
+        ((R.table_of.place at, node l x y z end) ∷ (R.table_of.place row, w) ∷ []) ((R.table_of.place at, node l x y z w) ∷ []) }
 {
-    let stmt = stmt_at(stmts, at);
-    set(
-        stmts,
-        at,
-        StmtRecord {
-            kind: stmt.kind,
-            exprs: stmt.exprs,
-            stmts: stmt.stmts,
-            decls: stmt.decls,
-            next: row,
-        },
-    );
+    relink(table, at, row);
 }
 
-// The last expression of a row that is not empty.
-pub fn last_of_row(exprs: &[ExprRecord], row: u32) -> u32
-    ensures { (ss : List StmtEntry) (ds : List DeclEntry) (e : Expr) (es : Exprs) →
-        Short (tables exprs.now ss ds) → At (tables exprs.now ss ds) (expr_at row) (expr_row e (exprs_row es)) →
-        count_exprs es < length exprs.now → expr_at result ≡ last_behind (tables exprs.now ss ds) (expr_at row) es }
+// Cuts the first record of a row off; the answer is what was behind it.
+pub fn detach<R: Record>(table: &mut [R], at: u32) -> u32
+    ensures { (l : Label) (x y z w : Row) → TurnsTable R.table_of table.old table.new
+        ((R.table_of.place at, node l x y z w) ∷ []) ((R.table_of.place at, node l x y z end) ∷ (R.table_of.place result, w) ∷ []) }
+{
+    relink(table, at, NOWHERE)
+}
+
+// Puts the records of a row one after the other in front of another row.
+pub fn push_all<R: Record>(table: &mut [R], row: u32, onto: u32) -> u32
+    ensures { (v w : Row) → TurnsTable R.table_of table.old table.new
+        ((R.table_of.place row, v) ∷ (R.table_of.place onto, w) ∷ []) ((R.table_of.place result, turned_onto v w) ∷ []) }
+{
+    let mut from = row;
+    let mut pushed = onto;
+    for _i in 0..table.len() {
+        if from == NOWHERE {
+            return pushed;
+        }
+        let behind = relink(table, from, pushed);
+        pushed = from;
+        from = behind;
+    }
+    pushed
+}
+
+// The last place of a row that is not empty.
+pub fn last_of_row<R: Record>(table: &[R], row: u32) -> u32
+    ensures { (n : ℕ) → n < length table.now → length table.now ≤ nowhere →
+        Chain (map R.link table.now) row (suc n) → result ≡ links_on (map R.link table.now) row n }
 {
     let mut at = row;
-    for _i in 0..exprs.len() {
-        let next = expr_at(exprs, at).next;
+    for _i in 0..table.len() {
+        let next = record_at(table, at).next();
         if next == NOWHERE {
             return at;
         }
@@ -74,20 +74,22 @@ pub fn last_of_row(exprs: &[ExprRecord], row: u32) -> u32
 }
 
 // Puts a row behind another that is not empty.
-pub fn append_row(exprs: &mut [ExprRecord], row: u32, more: u32)
-    ensures { (ss : List StmtEntry) (ds : List DeclEntry) (p : Pools) (e : Expr) (es : Exprs) (w : Row) →
-        Turns (tables exprs.old ss ds) p (tables exprs.new ss ds) p
-        [] ((expr_at row, expr_row e (exprs_row es)) ∷ (expr_at more, w) ∷ []) ((expr_at row, expr_row e (exprs_before es w)) ∷ []) }
+pub fn append<R: Record>(table: &mut [R], row: u32, more: u32)
+    ensures { (l : Label) (x y z v w : Row) → TurnsTable R.table_of table.old table.new
+        ((R.table_of.place row, node l x y z v) ∷ (R.table_of.place more, w) ∷ []) ((R.table_of.place row, node l x y z (in_front v w)) ∷ []) }
 {
-    let last = last_of_row(exprs, row);
-    let expr = expr_at(exprs, last);
-    set(
-        exprs,
-        last,
-        ExprRecord {
-            kind: expr.kind,
-            first: expr.first,
-            next: more,
-        },
-    );
+    let last = last_of_row(table, row);
+    link(table, last, more);
+}
+
+// Puts a row behind another, and tells where they begin.
+pub fn join_rows<R: Record>(table: &mut [R], row: u32, more: u32) -> u32
+    ensures { (v w : Row) → TurnsTable R.table_of table.old table.new
+        ((R.table_of.place row, v) ∷ (R.table_of.place more, w) ∷ []) ((R.table_of.place result, in_front v w) ∷ []) }
+{
+    if row == NOWHERE {
+        return more;
+    }
+    append(table, row, more);
+    row
 }

@@ -1,34 +1,12 @@
 -- What a statement's kind alone tells.
 use mathlib.Core.Path.{◌≡◌, ap, refl, sym}
 use mathlib.Core.Bool.{false, true}
-use Rattle.script.specs.declared.DeclarationKind.{DeclarationKind}
 use Rattle.script.specs.declared.StatementKind.TheVariants as statement
 use Rattle.script.specs.Tree.{Stmt, block, break, continue, declaration, do_while, empty, expression, for, if_then, return_of, switch, throw, while}
-use Rattle.rules.specs.Holder.{Holder}
-use Rattle.rules.specs.Jumps.{can_remove_termination_statement, drops_break, drops_continue}
-use Rattle.rules.specs.Statements.{is_lexical, is_terminated, statement_cares_about_scope}
+use Rattle.rules.specs.Statements.{is_terminated}
 use Rattle.rules.specs.Switches.{has_nested_break}
 use Rattle.moves.specs.First.{stmt_kind}
 use Rattle.moves.proofs.ByKind.{stmt_of_kind}
-
--- it declares a name in its list
-pub lexical_told : (x : Stmt) (k : DeclarationKind) → statement.Declaration k ≡ stmt_kind x → is_lexical k ≡ statement_cares_about_scope x
-lexical_told x k e = let s = stmt_of_kind x e in ap statement_cares_about_scope (sym s.1)
-
-pub not_lexical_told : (x : Stmt) → ((k : DeclarationKind) → stmt_kind x ≡ statement.Declaration k → ⊥) → false ≡ statement_cares_about_scope x
-not_lexical_told empty n = refl
-not_lexical_told (expression e) n = refl
-not_lexical_told (declaration k ds) n = absurd (n k refl)
-not_lexical_told (return_of v) n = refl
-not_lexical_told (throw e) n = refl
-not_lexical_told (if_then t c a) n = refl
-not_lexical_told (block ss) n = refl
-not_lexical_told (while t b) n = refl
-not_lexical_told (do_while b t) n = refl
-not_lexical_told (for i t u b) n = refl
-not_lexical_told (switch d cs) n = refl
-not_lexical_told break n = refl
-not_lexical_told continue n = refl
 
 -- it ends what follows
 pub return_told : (x : Stmt) → statement.Return ≡ stmt_kind x → true ≡ is_terminated x
@@ -80,24 +58,3 @@ not_broke_told break b i l = absurd (b refl)
 not_broke_told continue b i l = refl
 
 -- it may go at the end of a list
-pub break_goes : (h : Holder) (x : Stmt) → statement.Break ≡ stmt_kind x → drops_break h ≡ can_remove_termination_statement h x
-break_goes h x e = ap (can_remove_termination_statement h) (sym (stmt_of_kind x e))
-
-pub continue_goes : (h : Holder) (x : Stmt) → statement.Continue ≡ stmt_kind x → drops_continue h ≡ can_remove_termination_statement h x
-continue_goes h x e = ap (can_remove_termination_statement h) (sym (stmt_of_kind x e))
-
-pub others_stay : (h : Holder) (x : Stmt) → (stmt_kind x ≡ statement.Return → ⊥) → (stmt_kind x ≡ statement.Break → ⊥)
-    → (stmt_kind x ≡ statement.Continue → ⊥) → false ≡ can_remove_termination_statement h x
-others_stay h empty r b c = refl
-others_stay h (expression e) r b c = refl
-others_stay h (declaration k ds) r b c = refl
-others_stay h (return_of v) r b c = absurd (r refl)
-others_stay h (throw e) r b c = refl
-others_stay h (if_then e s a) r b c = refl
-others_stay h (block ss) r b c = refl
-others_stay h (while e s) r b c = refl
-others_stay h (do_while s e) r b c = refl
-others_stay h (for j e u s) r b c = refl
-others_stay h (switch d cs) r b c = refl
-others_stay h break r b c = absurd (b refl)
-others_stay h continue r b c = absurd (c refl)

@@ -2,7 +2,7 @@
 use mathlib.Core.Path.{◌≡◌, ◌∙◌, ap, refl, subst, sym}
 use mathlib.Core.Bool.{Bool, ◌&&◌, ◌||◌, false, true}
 use mathlib.Core.List.{List}
-use Prim.Native.Nat.{ℕ, ◌+◌, ◌-◌, ◌<◌, ◌≤◌}
+use Prim.Native.Nat.{ℕ, ◌+◌, ◌-◌, ◌≤◌}
 use native.Mathlib.Omega.{arith}
 use lib.ListN.{get_or}
 use Rattle.pool.specs.Chain.{nowhere}
@@ -50,13 +50,13 @@ branches_break c no_alternate = refl
 branches_break c (alternate s) = ap (λ (b : Bool). has_nested_break c || b) (or_false (has_nested_break s))
 
 -- no statement is told of within none
-pub within_none : {A : Type 0} (fact : Stmt → A) (stmts : List StmtRecord) (at bound : ℕ) (b : A) → bound ≡ 0 → TellsStmtWithin fact stmts at bound b
-within_none fact stmts at bound b z es ds x w s a n l = let q = some_statement x in absurd (omega arith)
+pub within_none : {A : Type 0} (fact : Stmt → A) (stmts : List StmtRecord) (at bound : ℕ) (b : A) → (1 ≤ bound → ⊥) → TellsStmtWithin fact stmts at bound b
+within_none fact stmts at bound b z es ds x w s a n l = let q = some_statement x in absurd (z (omega arith))
 
-module _ (stmts : List StmtRecord) (at bound : ℕ) (r : StmtRecord) (read : r ≡ get_or stmts at blank_stmt) (some : 0 < bound) where
+module _ (stmts : List StmtRecord) (at bound left : ℕ) (r : StmtRecord) (read : r ≡ get_or stmts at blank_stmt) (some : (1 ≤ bound) × (left ≡ bound - 1)) where
   -- a statement of this kind is told of by its row of statements
   pub if_terminated : {b : Bool} → r.kind ≡ statement.If
-      → TellsBranchesWithin (λ c a. is_terminated c && is_terminated_alternate a) stmts r.stmts (bound - 1) b
+      → TellsBranchesWithin (λ c a. is_terminated c && is_terminated_alternate a) stmts r.stmts left b
       → TellsStmtWithin is_terminated stmts at bound b
   if_terminated k f es ds x w s a n l =
       let q = stmt_of_kind x (sym k ∙ told_stmt_kind (tables es stmts ds) at x w read a) in
@@ -64,9 +64,11 @@ module _ (stmts : List StmtRecord) (at bound : ℕ) (r : StmtRecord) (read : r �
       let y = if_then q.0 q.1 q.2 in
       let a' = subst (λ (v : Stmt). At (tables es stmts ds) (stmt_at at) (stmt_row v w)) e a in
       let n' = subst (λ (v : Stmt). (records_stmt v).stmts ≤ bound) e n in
+      let o = some.0 in
+      let p = some.1 in
       f es ds q.1 q.2 s (told_stmt_stmts (tables es stmts ds) at y w read a') (omega arith) (omega arith) ∙ ap is_terminated (sym e)
 
-  pub block_terminated : {b : Bool} → r.kind ≡ statement.Block → TellsStmtsWithin is_terminated_list stmts r.stmts (bound - 1) b
+  pub block_terminated : {b : Bool} → r.kind ≡ statement.Block → TellsStmtsWithin is_terminated_list stmts r.stmts left b
       → TellsStmtWithin is_terminated stmts at bound b
   block_terminated k f es ds x w s a n l =
       let q = stmt_of_kind x (sym k ∙ told_stmt_kind (tables es stmts ds) at x w read a) in
@@ -74,9 +76,11 @@ module _ (stmts : List StmtRecord) (at bound : ℕ) (r : StmtRecord) (read : r �
       let y = block q.0 in
       let a' = subst (λ (v : Stmt). At (tables es stmts ds) (stmt_at at) (stmt_row v w)) e a in
       let n' = subst (λ (v : Stmt). (records_stmt v).stmts ≤ bound) e n in
+      let o = some.0 in
+      let p = some.1 in
       f es ds q.0 s (told_stmt_stmts (tables es stmts ds) at y w read a') (omega arith) (omega arith) ∙ ap is_terminated (sym e)
 
-  pub if_breaks : {b : Bool} → r.kind ≡ statement.If → TellsStmtsWithin has_nested_break_in_list stmts r.stmts (bound - 1) b
+  pub if_breaks : {b : Bool} → r.kind ≡ statement.If → TellsStmtsWithin has_nested_break_in_list stmts r.stmts left b
       → TellsStmtWithin has_nested_break stmts at bound b
   if_breaks k f es ds x w s a n l =
       let q = stmt_of_kind x (sym k ∙ told_stmt_kind (tables es stmts ds) at x w read a) in
@@ -84,12 +88,15 @@ module _ (stmts : List StmtRecord) (at bound : ℕ) (r : StmtRecord) (read : r �
       let y = if_then q.0 q.1 q.2 in
       let a' = subst (λ (v : Stmt). At (tables es stmts ds) (stmt_at at) (stmt_row v w)) e a in
       let n' = subst (λ (v : Stmt). (records_stmt v).stmts ≤ bound) e n in
+      let o = some.0 in
+      let p = some.1 in
       let m = branches_records q.1 q.2 in
       f es ds (branches q.1 q.2) s
-      (subst (λ (v : Row). At (tables es stmts ds) (stmt_at r.stmts) v) (branches_row q.1 q.2) (told_stmt_stmts (tables es stmts ds) at y w read a')) (omega arith) (omega arith)
+      (subst (λ (v : Row). At (tables es stmts ds) (stmt_at r.stmts) v) (branches_row q.1 q.2) (told_stmt_stmts (tables es stmts ds) at y w read a'))
+      (omega arith) (omega arith)
       ∙ branches_break q.1 q.2 ∙ ap has_nested_break (sym e)
 
-  pub block_breaks : {b : Bool} → r.kind ≡ statement.Block → TellsStmtsWithin has_nested_break_in_list stmts r.stmts (bound - 1) b
+  pub block_breaks : {b : Bool} → r.kind ≡ statement.Block → TellsStmtsWithin has_nested_break_in_list stmts r.stmts left b
       → TellsStmtWithin has_nested_break stmts at bound b
   block_breaks k f es ds x w s a n l =
       let q = stmt_of_kind x (sym k ∙ told_stmt_kind (tables es stmts ds) at x w read a) in
@@ -97,6 +104,8 @@ module _ (stmts : List StmtRecord) (at bound : ℕ) (r : StmtRecord) (read : r �
       let y = block q.0 in
       let a' = subst (λ (v : Stmt). At (tables es stmts ds) (stmt_at at) (stmt_row v w)) e a in
       let n' = subst (λ (v : Stmt). (records_stmt v).stmts ≤ bound) e n in
+      let o = some.0 in
+      let p = some.1 in
       f es ds q.0 s (told_stmt_stmts (tables es stmts ds) at y w read a') (omega arith) (omega arith) ∙ ap has_nested_break (sym e)
 
 -- the branches of an if, where the first was read
@@ -122,7 +131,7 @@ module _ (stmts : List StmtRecord) (row bound : ℕ) (r : StmtRecord) (read : r 
       g es ds x end s (told_stmt_next (tables es stmts ds) row c (stmt_row x end) read t) (omega arith) l
       ∙ ap (λ (b : Bool). b && is_terminated x) (f es ds c (stmt_row x end) s t (omega arith) l)
 
--- a return with a value, and one without
+-- a return without a value
 module _ (h : Holder) (heap : Heap) (at : ℕ) (r : StmtRecord) (read : r ≡ get_or heap.stmts at blank_stmt) (x : Stmt) (w : Row) (s : Short heap)
     (a : At heap (stmt_at at) (stmt_row x w)) (k : r.kind ≡ statement.Return) where
   returns : (v : OptionalExpr) × (x ≡ return_of v)
@@ -130,13 +139,6 @@ module _ (h : Holder) (heap : Heap) (at : ℕ) (r : StmtRecord) (read : r ≡ ge
 
   value : (v : OptionalExpr) → x ≡ return_of v → At heap (expr_at r.exprs) (optional_row v end)
   value v e = told_stmt_exprs heap at (return_of v) w read (subst (λ (u : Stmt). At heap (stmt_at at) (stmt_row u w)) e a)
-
-  pub return_stays : (r.exprs ≡ nowhere → ⊥) → false ≡ can_remove_termination_statement h x
-  return_stays ne = by returns.0 returns.1
-    where
-      by : (v : OptionalExpr) → x ≡ return_of v → false ≡ can_remove_termination_statement h x
-      by absent e = absurd (ne (value absent e))
-      by (present y) e = ap (can_remove_termination_statement h) (sym e)
 
   pub return_goes : r.exprs ≡ nowhere → drops_return h ≡ can_remove_termination_statement h x
   return_goes z = by returns.0 returns.1

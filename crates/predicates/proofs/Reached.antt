@@ -5,11 +5,12 @@ use mathlib.Core.List.{List}
 use Prim.Native.Nat.{ℕ, ◌+◌, ◌<◌, ◌≤◌}
 use native.Mathlib.Omega.{arith}
 use lib.ListN.{get_or, length}
-use borrow.Author.Tests.{le-leb, lt-leb}
+use borrow.Author.Tests.{lt-leb}
 use Rattle.script.specs.declared.ExpressionKind.TheVariants as expression
 use Rattle.script.specs.declared.Word.{Word}
 use Rattle.script.specs.Sound.{count_exprs, records_expr, records_exprs}
-use Rattle.script.specs.Tree.{Expr, Exprs, assignment, call, conditional, expr_then, logical, name, no_exprs, not, number, sequence, strict_equality, void, word}
+use Rattle.script.specs.Tree.{Expr, Exprs, assignment, call, conditional, expr_then, logical, name, no_exprs, not, number, sequence, strict_equality}
+use Rattle.script.specs.Tree.{void, word}
 use Rattle.records.specs.declared.record.DeclRecord.{DeclRecord}
 use Rattle.records.specs.declared.record.ExprRecord.{ExprRecord}
 use Rattle.records.specs.declared.record.StmtRecord.{StmtRecord}
@@ -19,7 +20,7 @@ use Rattle.records.specs.Owned.{Short}
 use Rattle.records.specs.Readable.{tables}
 use Rattle.records.specs.Rows.{At, Row, end}
 use Rattle.rules.specs.Ifs.{has_negated_result, has_negated_results, last_has_negated_result}
-use Rattle.rules.specs.Literals.{is_literal, is_literal_value}
+use Rattle.rules.specs.Literals.{is_literal_value}
 use Rattle.rules.specs.Returns.{conditional_count, conditional_expression_count_exceeded}
 use Rattle.moves.specs.First.{expr_kind}
 use Rattle.moves.specs.Last.{last_behind}
@@ -58,9 +59,6 @@ StepsInto fact exprs part next =
     → At (tables exprs ss ds) (expr_at part) (expr_row e w) → records_expr e ≤ length exprs
     → (x : Expr) × (v : Row) × At (tables exprs ss ds) (expr_at next) (expr_row x v) × (fact e ≡ fact x) × (records_expr x + 1 ≤ records_expr e)
 
-pub reached_here : (fact : Expr → Bool) (exprs : List ExprRecord) (at : ℕ) → Reached fact exprs at at 0
-reached_here fact exprs at ss ds e w s a n = (e, w, a, refl, omega arith)
-
 module _ (fact : Expr → Bool) (exprs : List ExprRecord) (at part i : ℕ) (inv : Reached fact exprs at part i) where
   pub reached_told : {b : Bool} → TellsExpr fact exprs part b → TellsExpr fact exprs at b
   reached_told f ss ds e w s a n =
@@ -81,25 +79,6 @@ module _ (fact : Expr → Bool) (exprs : List ExprRecord) (at part i : ℕ) (inv
 pub by_kind : (fact : Expr → Bool) (exprs : List ExprRecord) (at : ℕ) (r : ExprRecord) (b : Bool) → r ≡ get_or exprs at blank_expr
     → ((e : Expr) → r.kind ≡ expr_kind e → b ≡ fact e) → TellsExpr fact exprs at b
 by_kind fact exprs at r b read f ss ds e w s a n = f e (told_expr_kind (tables exprs ss ds) at e w read a)
-
-pub number_literal : (e : Expr) (b : ℕ) → expression.Number b ≡ expr_kind e → true ≡ is_literal e
-number_literal e b k = ap is_literal (sym (expr_of_kind e k))
-
-pub word_literal : (e : Expr) (c : Word) → expression.Word c ≡ expr_kind e → true ≡ is_literal e
-word_literal e c k = ap is_literal (sym (expr_of_kind e k))
-
-pub not_literal : (e : Expr) → ((b : ℕ) → expr_kind e ≡ expression.Number b → ⊥) → ((c : Word) → expr_kind e ≡ expression.Word c → ⊥) → false ≡ is_literal e
-not_literal (number b) n m = absurd (n b refl)
-not_literal (word c) n m = absurd (m c refl)
-not_literal (name v) n m = refl
-not_literal (assignment v e) n m = refl
-not_literal (call v es) n m = refl
-not_literal (sequence e es) n m = refl
-not_literal (conditional t a b) n m = refl
-not_literal (logical o a b) n m = refl
-not_literal (not e) n m = refl
-not_literal (void e) n m = refl
-not_literal (strict_equality a b) n m = refl
 
 pub number_value : (e : Expr) (b : ℕ) → expression.Number b ≡ expr_kind e → true ≡ is_literal_value e
 number_value e b k = ap is_literal_value (sym (expr_of_kind e k))
@@ -205,9 +184,6 @@ none_counted (not e) n = refl
 none_counted (void e) n = refl
 none_counted (strict_equality a b) n = refl
 
-pub counted_here : (exprs : List ExprRecord) (at : ℕ) → Counted exprs at at 0
-counted_here exprs at ss ds e w s a = (e, w, a, omega arith)
-
 module _ (exprs : List ExprRecord) (at part i : ℕ) (inv : Counted exprs at part i) where
   pub counted_few : (r : ExprRecord) → r ≡ get_or exprs part blank_expr → (r.kind ≡ expression.Conditional → ⊥) → i < 500
       → TellsExpr conditional_expression_count_exceeded exprs at false
@@ -217,9 +193,6 @@ module _ (exprs : List ExprRecord) (at part i : ℕ) (inv : Counted exprs at par
       let z = none_counted q.0 (λ c. ne (k ∙ c)) in
       let m = q.3 in
       sym (lt-leb 500 (conditional_count e) (omega arith))
-
-  pub counted_enough : 500 ≤ i → TellsExpr conditional_expression_count_exceeded exprs at true
-  counted_enough l ss ds e w s a n = let q = inv ss ds e w s a in let m = q.3 in sym (le-leb 500 (conditional_count e) (omega arith))
 
   pub counted_next : (r : ExprRecord) (next : ℕ) → r ≡ get_or exprs part blank_expr → expression.Conditional ≡ r.kind
       → next ≡ (get_or exprs (get_or exprs r.first blank_expr).next blank_expr).next → Counted exprs at next (i + 1)

@@ -6,16 +6,17 @@ use Prim.Native.Nat.{ℕ, ◌+◌, ◌≤◌}
 use native.Mathlib.Omega.{arith}
 use lib.ListN.{get_or, length}
 use Rattle.pool.specs.Chain.{nowhere}
-use Rattle.script.specs.Sound.{count_stmts, records_stmt, records_stmts}
+use Rattle.script.specs.Sound.{count_stmts, records_stmts}
 use Rattle.script.specs.Tree.{Stmt, Stmts, no_stmts, stmt_then}
 use Rattle.records.specs.declared.record.DeclRecord.{DeclRecord}
 use Rattle.records.specs.declared.record.ExprRecord.{ExprRecord}
 use Rattle.records.specs.declared.record.StmtRecord.{StmtRecord}
-use Rattle.records.specs.Embedding.{stmt_row, stmts_row}
+use Rattle.records.specs.Embedding.{stmts_row}
 use Rattle.records.specs.Heap.{blank_stmt, stmt_at}
 use Rattle.records.specs.Owned.{Short}
 use Rattle.records.specs.Readable.{tables}
-use Rattle.records.specs.Rows.{At, Row}
+use Rattle.records.specs.Rows.{At}
+use Rattle.predicates.specs.Within.{SomeHas, TellsStmtWithin, TellsStmtsWithin}
 use Rattle.moves.proofs.Told.{told_stmt_next, told_stmt_within}
 use Rattle.rules.proofs.BudgetUnreachable.{some_statement}
 
@@ -31,36 +32,30 @@ Passed facts stmts bound row at i =
     → (ys : Stmts) × At (tables es stmts ds) (stmt_at at) (stmts_row ys) × (facts xs ≡ facts ys) × (count_stmts ys + i ≡ count_stmts xs)
     × ((records_stmts ys).stmts ≤ bound)
 
-pub none_passed : (facts : Stmts → Bool) (stmts : List StmtRecord) (bound row : ℕ) → Passed facts stmts bound row row 0
-none_passed facts stmts bound row es ds xs s a n l = (xs, a, refl, omega arith, n)
+-- the same of whatever fact the answers tell
+abbrev pub Passing : (ℕ → Bool → Type 0) → List StmtRecord → ℕ → ℕ → ℕ → Type 0
+Passing answers stmts row at i =
+    (fact : Stmt → Bool) (facts : Stmts → Bool) (bound : ℕ) → SomeHas fact facts → ((at : ℕ) (b : Bool) → answers at b → TellsStmtWithin fact stmts at bound b)
+    → Passed facts stmts bound row at i
 
--- a first statement that is such, or is not
-abbrev pub FirstIs : (Stmt → Bool) → List StmtRecord → ℕ → ℕ → Bool → Type 0
-FirstIs fact stmts bound at r =
-    (es : List ExprRecord) (ds : List DeclRecord) (x : Stmt) (w : Row) → Short (tables es stmts ds)
-    → At (tables es stmts ds) (stmt_at at) (stmt_row x w) → (records_stmt x).stmts ≤ bound → bound ≤ length stmts → r ≡ fact x
-
-module _ (fact : Stmt → Bool) (facts : Stmts → Bool) (none : facts no_stmts ≡ false)
-    (more : (x : Stmt) (xs : Stmts) → facts (stmt_then x xs) ≡ (fact x || facts xs))
+module _ (fact : Stmt → Bool) (facts : Stmts → Bool) (has : SomeHas fact facts)
     (stmts : List StmtRecord) (bound row at i : ℕ) (inv : Passed facts stmts bound row at i) where
-  pub none_left : at ≡ nowhere → (es : List ExprRecord) (ds : List DeclRecord) (xs : Stmts) → Short (tables es stmts ds)
-      → At (tables es stmts ds) (stmt_at row) (stmts_row xs) → (records_stmts xs).stmts ≤ bound → bound ≤ length stmts → false ≡ facts xs
+  pub none_left : at ≡ nowhere → TellsStmtsWithin facts stmts row bound false
   none_left z es ds xs s a n l = let q = inv es ds xs s a n l in by q.0 q.1 q.2
     where
       by : (ys : Stmts) → At (tables es stmts ds) (stmt_at at) (stmts_row ys) → facts xs ≡ facts ys → false ≡ facts xs
-      by no_stmts b e = sym (e ∙ none)
+      by no_stmts b e = sym (e ∙ has.none)
       by (stmt_then y ys) b e = let v = told_stmt_within (tables es stmts ds) at y (stmts_row ys) refl b in let u = s.stmts in absurd (omega arith)
 
-  pub found_one : (at ≡ nowhere → ⊥) → FirstIs fact stmts bound at true → (es : List ExprRecord) (ds : List DeclRecord) (xs : Stmts)
-      → Short (tables es stmts ds) → At (tables es stmts ds) (stmt_at row) (stmts_row xs) → (records_stmts xs).stmts ≤ bound → bound ≤ length stmts → true ≡ facts xs
+  pub found_one : (at ≡ nowhere → ⊥) → TellsStmtWithin fact stmts at bound true → TellsStmtsWithin facts stmts row bound true
   found_one ne is es ds xs s a n l = let q = inv es ds xs s a n l in by q.0 q.1 q.2 q.4
     where
       by : (ys : Stmts) → At (tables es stmts ds) (stmt_at at) (stmts_row ys) → facts xs ≡ facts ys → (records_stmts ys).stmts ≤ bound → true ≡ facts xs
       by no_stmts b e m = absurd (ne b)
       by (stmt_then y ys) b e m =
-          let t = is es ds y (stmts_row ys) s b (omega arith) l in sym (e ∙ more y ys ∙ ap (λ (v : Bool). v || facts ys) (sym t))
+          let t = is es ds y (stmts_row ys) s b (omega arith) l in sym (e ∙ has.more y ys ∙ ap (λ (v : Bool). v || facts ys) (sym t))
 
-  pub one_passed : (at ≡ nowhere → ⊥) → FirstIs fact stmts bound at false → Passed facts stmts bound row (get_or stmts at blank_stmt).next (i + 1)
+  pub one_passed : (at ≡ nowhere → ⊥) → TellsStmtWithin fact stmts at bound false → Passed facts stmts bound row (get_or stmts at blank_stmt).next (i + 1)
   one_passed ne is es ds xs s a n l = let q = inv es ds xs s a n l in by q.0 q.1 q.2 q.3 q.4
     where
       by : (ys : Stmts) → At (tables es stmts ds) (stmt_at at) (stmts_row ys) → facts xs ≡ facts ys → count_stmts ys + i ≡ count_stmts xs
@@ -69,13 +64,17 @@ module _ (fact : Stmt → Bool) (facts : Stmts → Bool) (none : facts no_stmts 
           × (count_stmts zs + (i + 1) ≡ count_stmts xs) × ((records_stmts zs).stmts ≤ bound)
       by no_stmts b e c m = absurd (ne b)
       by (stmt_then y ys) b e c m =
-          let t = is es ds y (stmts_row ys) s b (omega arith) l in
-          (ys, told_stmt_next (tables es stmts ds) at y (stmts_row ys) refl b, e ∙ more y ys ∙ ap (λ (v : Bool). v || facts ys) (sym t), omega arith, omega arith)
+          let t = is es ds y (stmts_row ys) s b (omega arith) l in (
+            ys,
+            told_stmt_next (tables es stmts ds) at y (stmts_row ys) refl b,
+            e ∙ has.more y ys ∙ ap (λ (v : Bool). v || facts ys) (sym t),
+            omega arith,
+            omega arith,
+          )
 
-  pub all_passed : length stmts ≤ i → (es : List ExprRecord) (ds : List DeclRecord) (xs : Stmts) → Short (tables es stmts ds)
-      → At (tables es stmts ds) (stmt_at row) (stmts_row xs) → (records_stmts xs).stmts ≤ bound → bound ≤ length stmts → false ≡ facts xs
+  pub all_passed : length stmts ≤ i → TellsStmtsWithin facts stmts row bound false
   all_passed k es ds xs s a n l = let q = inv es ds xs s a n l in by q.0 q.2 q.3
     where
       by : (ys : Stmts) → facts xs ≡ facts ys → count_stmts ys + i ≡ count_stmts xs → false ≡ facts xs
-      by no_stmts e c = sym (e ∙ none)
+      by no_stmts e c = sym (e ∙ has.none)
       by (stmt_then y ys) e c = let r = stmts_records xs in absurd (omega arith)

@@ -6,7 +6,7 @@ ghost use Rattle.rules.specs.Literals.{is_literal, is_literal_value};
 ghost use Rattle.rules.specs.Returns.{conditional_expression_count_exceeded};
 ghost use Rattle.moves.specs.Read.{TellsExpr};
 
-use moves::{expr_at, last_of_row};
+use moves::{last_of_row, record_at};
 use records::ExprRecord;
 use script::ExpressionKind;
 
@@ -17,10 +17,10 @@ const CONDITIONAL_LIMIT: u32 = 500;
 pub fn is_literal(exprs: &[ExprRecord], at: u32) -> bool
     ensures { TellsExpr is_literal exprs.now at result }
 {
-    match expr_at(exprs, at).kind {
-        ExpressionKind::Number(_) | ExpressionKind::Word(_) => true,
-        _ => false,
-    }
+    matches!(
+        record_at(exprs, at).kind,
+        ExpressionKind::Number(_) | ExpressionKind::Word(_)
+    )
 }
 
 // Whether an expression is a literal, or `!` and `void` over one.
@@ -28,8 +28,8 @@ pub fn is_literal_value(exprs: &[ExprRecord], at: u32) -> bool
     ensures { TellsExpr is_literal_value exprs.now at result }
 {
     let mut part = at;
-    for _i in 0..exprs.len() {
-        let expr = expr_at(exprs, part);
+    for _ in 0..exprs.len() {
+        let expr = record_at(exprs, part);
         match expr.kind {
             ExpressionKind::Number(_) | ExpressionKind::Word(_) => return true,
             ExpressionKind::Not | ExpressionKind::Void => part = expr.first,
@@ -44,8 +44,8 @@ pub fn has_negated_result(exprs: &[ExprRecord], at: u32) -> bool
     ensures { TellsExpr has_negated_result exprs.now at result }
 {
     let mut part = at;
-    for _i in 0..exprs.len() {
-        let expr = expr_at(exprs, part);
+    for _ in 0..exprs.len() {
+        let expr = record_at(exprs, part);
         match expr.kind {
             ExpressionKind::Not => return true,
             ExpressionKind::Sequence => part = last_of_row(exprs, expr.first),
@@ -59,8 +59,8 @@ pub fn has_negated_result(exprs: &[ExprRecord], at: u32) -> bool
 fn third_of_row(exprs: &[ExprRecord], row: u32) -> u32
     ensures { result ≡ (get_or exprs.now (get_or exprs.now row blank_expr).next blank_expr).next }
 {
-    let second = expr_at(exprs, row).next;
-    expr_at(exprs, second).next
+    let second = record_at(exprs, row).next;
+    record_at(exprs, second).next
 }
 
 // Whether so many conditionals stand one in the other's last part.
@@ -68,13 +68,12 @@ pub fn conditional_expression_count_exceeded(exprs: &[ExprRecord], at: u32) -> b
     ensures { TellsExpr conditional_expression_count_exceeded exprs.now at result }
 {
     let mut part = at;
-    for _i in 0..CONDITIONAL_LIMIT {
-        let expr = expr_at(exprs, part);
-        if let ExpressionKind::Conditional = expr.kind {
-            part = third_of_row(exprs, expr.first);
-        } else {
+    for _ in 0..CONDITIONAL_LIMIT {
+        let expr = record_at(exprs, part);
+        let ExpressionKind::Conditional = expr.kind else {
             return false;
-        }
+        };
+        part = third_of_row(exprs, expr.first);
     }
     true
 }

@@ -1,14 +1,32 @@
 // Whether a statement ends what follows it, whether it declares a name in its list, and whether a break would leave it.
-ghost use Rattle.std.specs.Prelude.{◌≡◌, ◌&&◌};
-ghost use Rattle.rules.specs.Statements.{any_cares_about_scope, is_lexical, is_terminated, is_terminated_alternate, is_terminated_list, statement_cares_about_scope};
+ghost use Rattle.std.specs.Prelude.{◌&&◌};
+ghost use Rattle.rules.specs.Statements.{any_cares_about_scope, is_terminated, is_terminated_alternate, is_terminated_list, statement_cares_about_scope};
 ghost use Rattle.rules.specs.Switches.{has_nested_break, has_nested_break_in_list};
 ghost use Rattle.moves.specs.Read.{TellsStmt, TellsStmts};
-ghost use Rattle.predicates.specs.Within.{TellsBranchesWithin, TellsStmtWithin, TellsStmtsWithin};
+ghost use Rattle.predicates.specs.Within.{TellsBranchesWithin, TellsSome, TellsStmtWithin, TellsStmtsWithin};
 
-use moves::stmt_at;
+use moves::record_at;
 use pool::NOWHERE;
 use records::StmtRecord;
 use script::{DeclarationKind, StatementKind};
+
+// Whether any statement of a row is such. No row has more statements than the table has records.
+fn any_of_row<F: Fn(u32) -> bool>(stmts: &[StmtRecord], row: u32, is_such: F) -> bool
+    requires { F.IsAlwaysCallable is_such }
+    ensures { TellsSome (F.post is_such) stmts.now row result }
+{
+    let mut at = row;
+    for _ in 0..stmts.len() {
+        if at == NOWHERE {
+            return false;
+        }
+        if is_such(at) {
+            return true;
+        }
+        at = record_at(stmts, at).next;
+    }
+    false
+}
 
 // Whether a statement ends what follows it.
 pub fn is_terminated(stmts: &[StmtRecord], at: u32) -> bool
@@ -22,17 +40,17 @@ pub fn is_terminated(stmts: &[StmtRecord], at: u32) -> bool
 fn terminates(stmts: &[StmtRecord], at: u32, depth: usize) -> bool
     ensures { TellsStmtWithin is_terminated stmts.now at depth result }
 {
-    if depth == 0 {
+    let Some(left) = depth.checked_sub(1) else {
         return false;
-    }
-    let stmt = stmt_at(stmts, at);
+    };
+    let stmt = record_at(stmts, at);
     match stmt.kind {
         StatementKind::Return
         | StatementKind::Throw
         | StatementKind::Break
         | StatementKind::Continue => true,
-        StatementKind::If => both_terminate(stmts, stmt.stmts, depth - 1),
-        StatementKind::Block => any_terminates(stmts, stmt.stmts, depth - 1),
+        StatementKind::If => both_terminate(stmts, stmt.stmts, left),
+        StatementKind::Block => any_terminates(stmts, stmt.stmts, left),
         _ => false,
     }
 }
@@ -42,14 +60,8 @@ fn terminates(stmts: &[StmtRecord], at: u32, depth: usize) -> bool
 fn both_terminate(stmts: &[StmtRecord], branches: u32, depth: usize) -> bool
     ensures { TellsBranchesWithin (λ c a. is_terminated c && is_terminated_alternate a) stmts.now branches depth result }
 {
-    let other = stmt_at(stmts, branches).next;
-    if other == NOWHERE {
-        return false;
-    }
-    if !terminates(stmts, branches, depth) {
-        return false;
-    }
-    terminates(stmts, other, depth)
+    let other = record_at(stmts, branches).next;
+    other != NOWHERE && terminates(stmts, branches, depth) && terminates(stmts, other, depth)
 }
 
 // Whether any statement of a list ends what follows.
@@ -57,54 +69,30 @@ fn both_terminate(stmts: &[StmtRecord], branches: u32, depth: usize) -> bool
 fn any_terminates(stmts: &[StmtRecord], row: u32, depth: usize) -> bool
     ensures { TellsStmtsWithin is_terminated_list stmts.now row depth result }
 {
-    let mut at = row;
-    for _i in 0..stmts.len() {
-        if at == NOWHERE {
-            return false;
-        }
-        if terminates(stmts, at, depth) {
-            return true;
-        }
-        at = stmt_at(stmts, at).next;
-    }
-    false
-}
-
-fn is_lexical(kind: DeclarationKind) -> bool
-    ensures { result ≡ is_lexical kind }
-{
-    match kind {
-        DeclarationKind::Var => false,
-        DeclarationKind::Let => true,
-        DeclarationKind::Const => true,
-    }
+    any_of_row(
+        stmts,
+        row,
+        |at|
+            ensures { TellsStmtWithin is_terminated stmts.entry.now at depth result }
+        { terminates(stmts, at, depth) },
+    )
 }
 
 // Whether a statement declares a name for its list alone.
 pub fn statement_cares_about_scope(stmts: &[StmtRecord], at: u32) -> bool
     ensures { TellsStmt statement_cares_about_scope stmts.now at result }
 {
-    match stmt_at(stmts, at).kind {
-        StatementKind::Declaration(kind) => is_lexical(kind),
-        _ => false,
-    }
+    matches!(
+        record_at(stmts, at).kind,
+        StatementKind::Declaration(DeclarationKind::Let | DeclarationKind::Const)
+    )
 }
 
 // Whether any statement of a list does.
 pub fn any_cares_about_scope(stmts: &[StmtRecord], row: u32) -> bool
     ensures { TellsStmts any_cares_about_scope stmts.now row result }
 {
-    let mut at = row;
-    for _i in 0..stmts.len() {
-        if at == NOWHERE {
-            return false;
-        }
-        if statement_cares_about_scope(stmts, at) {
-            return true;
-        }
-        at = stmt_at(stmts, at).next;
-    }
-    false
+    any_of_row(stmts, row, |at| statement_cares_about_scope(stmts, at))
 }
 
 // Whether a list has a break that would leave the switch around it.
@@ -119,14 +107,13 @@ pub fn has_nested_break(stmts: &[StmtRecord], row: u32) -> bool
 fn breaks(stmts: &[StmtRecord], at: u32, depth: usize) -> bool
     ensures { TellsStmtWithin has_nested_break stmts.now at depth result }
 {
-    if depth == 0 {
+    let Some(left) = depth.checked_sub(1) else {
         return false;
-    }
-    let stmt = stmt_at(stmts, at);
+    };
+    let stmt = record_at(stmts, at);
     match stmt.kind {
         StatementKind::Break => true,
-        StatementKind::If => any_breaks(stmts, stmt.stmts, depth - 1),
-        StatementKind::Block => any_breaks(stmts, stmt.stmts, depth - 1),
+        StatementKind::If | StatementKind::Block => any_breaks(stmts, stmt.stmts, left),
         _ => false,
     }
 }
@@ -136,15 +123,11 @@ fn breaks(stmts: &[StmtRecord], at: u32, depth: usize) -> bool
 fn any_breaks(stmts: &[StmtRecord], row: u32, depth: usize) -> bool
     ensures { TellsStmtsWithin has_nested_break_in_list stmts.now row depth result }
 {
-    let mut at = row;
-    for _i in 0..stmts.len() {
-        if at == NOWHERE {
-            return false;
-        }
-        if breaks(stmts, at, depth) {
-            return true;
-        }
-        at = stmt_at(stmts, at).next;
-    }
-    false
+    any_of_row(
+        stmts,
+        row,
+        |at|
+            ensures { TellsStmtWithin has_nested_break stmts.entry.now at depth result }
+        { breaks(stmts, at, depth) },
+    )
 }

@@ -32,9 +32,6 @@ pub record Midway (bytes : List ℕ) (i : ℕ) (m : Model) (h : Heap) (d : Draft
   pub holds : Holds h d model
   pub same : judge_all bytes m ≡ more i (judge_all (drop i bytes) model)
 
-pub midway_start : (bytes : List ℕ) (m : Model) (h : Heap) (d : Draft) → Holds h d m → Midway bytes 0 m h d
-midway_start bytes m h d o = record { model = m; holds = o; same = refl }
-
 module _ (bytes : List ℕ) (i : ℕ) (m : Model) (h : Heap) (d : Draft) (mid : Midway bytes i m h d) where
   module _ (here : i < length bytes) where
     at_byte : judge_all bytes m ≡ more i (then_fed (judge mid.model (get_or bytes i 0)) mid.model (λ m'. judge_all (drop (suc i) bytes) m'))

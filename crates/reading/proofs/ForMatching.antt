@@ -11,7 +11,7 @@ use Rattle.records.specs.Heap.{stmt_label}
 use Rattle.records.specs.Rows.{Row, end, node}
 use Rattle.records.specs.Embedding.{optional_row, stmt_row, item_row, expr_row, expr_stack, is_present, init_kind, init_exprs, init_stmts}
 use Rattle.shapes.specs.Shape.{head_expressions, init_statements}
-use Rattle.reading.specs.Making.{Matches}
+use Rattle.reading.specs.Making.{parts_of, Matches}
 use Rattle.reading.proofs.TakenParts.{Taken, none, pop_taken, optional_stack, pop_if_taken, first_if_taken}
 use Rattle.reading.proofs.Made.{misplaced, made}
 use Rattle.reading.proofs.ItemSurveys.{branch_taken, init_taken}
@@ -31,10 +31,11 @@ for_row i t u b {test} {update} pt pu w =
     (sym (optional_stack t (optional_on u []) ∙ ap (optional_row t) (optional_stack u [])))
 
 pub for_matches : (i : ForInit) (test update : Bool) (s : Stacks) →
-    Matches (makes.Stmt (kind.For (head_of i test update)) (head_expressions (head_of i test update)) (1 + init_statements i) 0) s (perform (command.For (head_of i test update)) s)
+    Matches (makes.Stmt (kind.For (head_of i test update)) (parts_of (head_expressions (head_of i test update)) (1 + init_statements i) 0)) s
+    (perform (command.For (head_of i test update)) s)
 for_matches init.Absent test update s =
     let h = head_of init.Absent test update in
-    let P = Matches (makes.Stmt (kind.For h) (head_expressions h) 1 0) s in
+    let P = Matches (makes.Stmt (kind.For h) (parts_of (head_expressions h) 1 0)) s in
     first_if_taken P update s.exprs _ (λ lack. inl (omega arith)) (λ u es₁ pu t₁.
     pop_if_taken P test es₁ _ t₁ (λ lack. inl (omega arith)) (λ t es pt t₂.
     pop_taken P s.stmts _ none (λ lack. inr (inl lack)) (λ b is ti.
@@ -46,7 +47,7 @@ for_matches init.Absent test update s =
     ∙ ap (λ (i : Item). node (stmt_label (kind.For h)) (expr_stack (optional_on t (optional_on u []))) (item_row i end) end w) (sym p))))))
 for_matches init.Expression test update s =
     let h = head_of init.Expression test update in
-    let P = Matches (makes.Stmt (kind.For h) (head_expressions h) 1 0) s in
+    let P = Matches (makes.Stmt (kind.For h) (parts_of (head_expressions h) 1 0)) s in
     first_if_taken P update s.exprs _ (λ lack. inl (omega arith)) (λ u es₁ pu t₁.
     pop_if_taken P test es₁ _ t₁ (λ lack. inl (omega arith)) (λ t es₂ pt t₂.
     pop_taken P s.stmts _ none (λ lack. inr (inl lack)) (λ b is ti.
@@ -59,7 +60,7 @@ for_matches init.Expression test update s =
     ∙ ap (λ (i : Item). node (stmt_label (kind.For h)) (expr_row e (expr_stack (optional_on t (optional_on u [])))) (item_row i end) end w) (sym p)))))))
 for_matches init.Declaration test update s =
     let h = head_of init.Declaration test update in
-    let P = Matches (makes.Stmt (kind.For h) (head_expressions h) 2 0) s in
+    let P = Matches (makes.Stmt (kind.For h) (parts_of (head_expressions h) 2 0)) s in
     first_if_taken P update s.exprs _ (λ lack. inl (omega arith)) (λ u es₁ pu t₁.
     pop_if_taken P test es₁ _ t₁ (λ lack. inl (omega arith)) (λ t es pt t₂.
     pop_taken P s.stmts _ none (λ lack. inr (inl (omega arith))) (λ b is₁ ti₁.

@@ -4,7 +4,6 @@ pub mod Fitting
 pub mod Made
 pub mod ForMatching
 pub mod Matching
-pub mod Spares
 pub mod Looking
 pub mod Performed
 pub mod PerformedStmts

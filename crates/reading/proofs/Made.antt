@@ -10,28 +10,29 @@ use Rattle.records.specs.Rows.{Row, end, node}
 use Rattle.records.specs.Embedding.{expr_row, optional_row, item_row, expr_stack, stmt_stack, decl_stack}
 use Rattle.shapes.specs.Shape.{fits_stmt, survey, decl_survey, first_declared}
 use Rattle.records.specs.Turning.{front}
-use Rattle.reading.specs.Making.{Enough, Left, fitting, Matches}
+use Rattle.reading.specs.Making.{parts_of, Enough, Left, fitting, Matches}
 use Rattle.reading.proofs.TakenParts.{Taken, none, taken_enough, exprs_front, exprs_less, stmts_front, stmts_less, decls_front, decls_less}
 
 module _ (s : Stacks) {a b c : ℕ} {pe es : List Expr} {pi is : List Item} {pd ds : List Declarator}
     (te : Taken a s.exprs pe es) (ti : Taken b s.stmts pi is) (td : Taken c s.decls pd ds) where
-  pub enough : Enough s a b c
+  pub enough : Enough s (parts_of a b c)
   enough = record { exprs = taken_enough te; stmts = taken_enough ti; decls = taken_enough td }
 
-  pub remains : Left s a b c (left es is ds)
+  pub remains : Left s (parts_of a b c) (left es is ds)
   remains = record { exprs = exprs_less te; stmts = stmts_less ti; decls = decls_less td }
 
   -- the parts that were taken decide whether they fit
-  parts_fit : (k : StatementKind) → fitting k a b c s ≡ fits_stmt k a (survey (stmt_stack pi)) (decl_survey (decl_stack pd)) (first_declared (stmt_stack pi))
+  parts_fit : (k : StatementKind) →
+      fitting k (parts_of a b c) s ≡ fits_stmt k a (survey (stmt_stack pi)) (decl_survey (decl_stack pd)) (first_declared (stmt_stack pi))
   parts_fit k = ap₂ (λ (y z : Row). fits_stmt k a (survey y) (decl_survey z) (first_declared y)) (stmts_front ti) (decls_front td)
 
   pub misplaced : (k : StatementKind) → fits_stmt k a (survey (stmt_stack pi)) (decl_survey (decl_stack pd)) (first_declared (stmt_stack pi)) ≡ false →
-      Matches (makes.Stmt k a b c) s misplaces
+      Matches (makes.Stmt k (parts_of a b c)) s misplaces
   misplaced k e = (enough, parts_fit k ∙ e)
 
   pub made : (k : StatementKind) (i : Item) → fits_stmt k a (survey (stmt_stack pi)) (decl_survey (decl_stack pd)) (first_declared (stmt_stack pi)) ≡ true →
       ((w : Row) → item_row i w ≡ node (stmt_label k) (expr_stack pe) (stmt_stack pi) (decl_stack pd) w) →
-      Matches (makes.Stmt k a b c) s (puts_item i (left es is ds))
+      Matches (makes.Stmt k (parts_of a b c)) s (puts_item i (left es is ds))
   made k i e row = (
     enough,
     parts_fit k ∙ e,

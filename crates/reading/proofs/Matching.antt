@@ -1,5 +1,5 @@
 -- Performing a command puts what the command makes.
-use Rattle.std.proofs.Common.{◌≡◌, ℕ, ◌+◌, ◌≤◌, Bool, true, false, not as negated, ◌&&◌, List, [], ◌∷◌, None, sym, refl, ap, ◌∙◌, ap₂, inl, inr, arith}
+use Rattle.std.proofs.Common.{◌≡◌, ℕ, ◌+◌, ◌≤◌, Bool, true, false, not as negated, ◌&&◌, List, [], ◌∷◌, None, sym, refl, ap, subst, ◌∙◌, ap₂, inl, inr, arith}
 use mathlib.Core.Bool.{and-false}
 use borrow.Author.Tests.{not-true, not-false}
 use Rattle.script.specs.declared.DeclarationKind.{DeclarationKind}
@@ -12,13 +12,14 @@ use Rattle.script.specs.Tree.{Expr, no_alternate, alternate}
 use Rattle.script.specs.Tree.{number, word, name, assignment, call, sequence, conditional, logical, not, void, strict_equality}
 use Rattle.script.specs.Tree.{empty, expression, declaration, return_of, throw, if_then, block, while, do_while, switch, break, continue}
 use Rattle.script.specs.Stacks.{Item, statement, case, Stacks, Performed, puts_expr, pop, exprs_of, declarators_of, as_sequence, sound_declaration, sound_cases, left, perform}
+use Rattle.reading.specs.declared.making.Making.{Making}
 use Rattle.reading.specs.declared.making.Making.TheVariants as makes
 use Rattle.records.specs.Heap.{expr_label, stmt_label}
 use Rattle.records.specs.Rows.{Row, end, node}
 use Rattle.records.specs.Embedding.{expr_row, item_row}
 use Rattle.shapes.specs.Shape.{fits_stmt, survey, decl_survey}
 use Rattle.records.specs.Flags.{one_if as flag_number}
-use Rattle.reading.specs.Making.{made_by, Listed, Matches}
+use Rattle.reading.specs.Making.{made_by, parts_of, Listed, Matches}
 use Rattle.reading.proofs.TakenParts.{Taken, none, pop_taken, all_taken, optional_stack, first_if_taken, stmts_front}
 use Rattle.reading.proofs.Made.{enough, remains, misplaced, made, expr_made, decl_made}
 use Rattle.reading.proofs.ItemSurveys.{plain, unless_taken, branch_taken, stmts_taken, cases_taken, declarators_stack}
@@ -73,29 +74,30 @@ module _ (s : Stacks) where
 -- statements of expressions
 
 module _ (s : Stacks) where
-  expression_matches : Matches (makes.Stmt kind.Expression 1 0 0) s (perform command.Expression s)
+  expression_matches : Matches (makes.Stmt kind.Expression (parts_of 1 0 0)) s (perform command.Expression s)
   expression_matches =
-      pop_taken (Matches (makes.Stmt kind.Expression 1 0 0) s) s.exprs _ none (λ lack. inl lack)
+      pop_taken (Matches (makes.Stmt kind.Expression (parts_of 1 0 0)) s) s.exprs _ none (λ lack. inl lack)
       (λ e es t. made s t none none kind.Expression (statement (expression e)) refl (λ w. refl))
 
-  throw_matches : Matches (makes.Stmt kind.Throw 1 0 0) s (perform command.Throw s)
+  throw_matches : Matches (makes.Stmt kind.Throw (parts_of 1 0 0)) s (perform command.Throw s)
   throw_matches =
-      pop_taken (Matches (makes.Stmt kind.Throw 1 0 0) s) s.exprs _ none (λ lack. inl lack)
+      pop_taken (Matches (makes.Stmt kind.Throw (parts_of 1 0 0)) s) s.exprs _ none (λ lack. inl lack)
       (λ e es t. made s t none none kind.Throw (statement (throw e)) refl (λ w. refl))
 
   return_fits : (v : Bool) → fits_stmt kind.Return (flag_number v) (survey end) (decl_survey end) None ≡ true
   return_fits true = refl
   return_fits false = refl
 
-  return_matches : (v : Bool) → Matches (makes.Stmt kind.Return (flag_number v) 0 0) s (perform (command.Return v) s)
+  return_matches : (v : Bool) → Matches (makes.Stmt kind.Return (parts_of (flag_number v) 0 0)) s (perform (command.Return v) s)
   return_matches v =
-      first_if_taken (Matches (makes.Stmt kind.Return (flag_number v) 0 0) s) v s.exprs _ (λ lack. inl lack)
+      first_if_taken (Matches (makes.Stmt kind.Return (parts_of (flag_number v) 0 0)) s) v s.exprs _ (λ lack. inl lack)
       (λ e es p t. made s t none none kind.Return (statement (return_of e)) (return_fits v)
       (λ w. ap (λ (x : Row). node (stmt_label kind.Return) x end end w) (sym (optional_stack e []))))
 
-  declaration_matches : (k : DeclarationKind) (c : ℕ) → 1 ≤ c → Matches (makes.Stmt (kind.Declaration k) 0 0 c) s (perform (command.Declaration k c) s)
+  declaration_matches : (k : DeclarationKind) (c : ℕ) → 1 ≤ c →
+      Matches (makes.Stmt (kind.Declaration k) (parts_of 0 0 c)) s (perform (command.Declaration k c) s)
   declaration_matches k c ok =
-      let P = Matches (makes.Stmt (kind.Declaration k) 0 0 c) s in
+      let P = Matches (makes.Stmt (kind.Declaration k) (parts_of 0 0 c)) s in
       all_taken P c s.decls _ (λ lack. inr (inr lack)) (λ parts ds t.
       let fits = declaration_sound k parts (let e = t.count in omega arith) in
       unless_taken P (negated (sound_declaration k (declarators_of parts))) _
@@ -115,9 +117,9 @@ both_true : (x y : Bool) → x ≡ true → y ≡ true → (x && y) ≡ true
 both_true x y e f = ap₂ ◌&&◌ e f
 
 module _ (s : Stacks) where
-  if_one_matches : Matches (makes.Stmt kind.If 1 1 0) s (perform (command.If false) s)
+  if_one_matches : Matches (makes.Stmt kind.If (parts_of 1 1 0)) s (perform (command.If false) s)
   if_one_matches =
-      let P = Matches (makes.Stmt kind.If 1 1 0) s in
+      let P = Matches (makes.Stmt kind.If (parts_of 1 1 0)) s in
       pop_taken P s.exprs _ none (λ lack. inl lack) (λ t es te.
       pop_taken P s.stmts _ none (λ lack. inr (inl lack)) (λ c is ti.
       branch_taken P c _
@@ -125,9 +127,9 @@ module _ (s : Stacks) where
       (λ c' p good. made s te ti none kind.If (statement (if_then t c' no_alternate)) (if_one c ∙ good)
       (λ w. ap (λ (i : Item). node (stmt_label kind.If) (expr_row t end) (item_row i end) end w) (sym p)))))
 
-  if_two_matches : Matches (makes.Stmt kind.If 1 2 0) s (perform (command.If true) s)
+  if_two_matches : Matches (makes.Stmt kind.If (parts_of 1 2 0)) s (perform (command.If true) s)
   if_two_matches =
-      let P = Matches (makes.Stmt kind.If 1 2 0) s in
+      let P = Matches (makes.Stmt kind.If (parts_of 1 2 0)) s in
       pop_taken P s.exprs _ none (λ lack. inl lack) (λ t es te.
       pop_taken P s.stmts _ none (λ lack. inr (inl (omega arith))) (λ a is₁ ti₁.
       pop_taken P is₁ _ ti₁ (λ lack. inr (inl lack)) (λ c is ti.
@@ -136,13 +138,13 @@ module _ (s : Stacks) where
       made s te ti none kind.If (statement (if_then t c' (alternate a'))) (if_two c a ∙ both_true (plain c) (plain a) good fine)
       (λ w. ap₂ (λ (i j : Item). node (stmt_label kind.If) (expr_row t end) (item_row i (item_row j end)) end w) (sym p) (sym q)))))))
 
-  if_matches : (a : Bool) → Matches (makes.Stmt kind.If 1 (1 + flag_number a) 0) s (perform (command.If a) s)
+  if_matches : (a : Bool) → Matches (makes.Stmt kind.If (parts_of 1 (1 + flag_number a) 0)) s (perform (command.If a) s)
   if_matches false = if_one_matches
   if_matches true = if_two_matches
 
-  while_matches : Matches (makes.Stmt kind.While 1 1 0) s (perform command.While s)
+  while_matches : Matches (makes.Stmt kind.While (parts_of 1 1 0)) s (perform command.While s)
   while_matches =
-      let P = Matches (makes.Stmt kind.While 1 1 0) s in
+      let P = Matches (makes.Stmt kind.While (parts_of 1 1 0)) s in
       pop_taken P s.exprs _ none (λ lack. inl lack) (λ t es te.
       pop_taken P s.stmts _ none (λ lack. inr (inl lack)) (λ b is ti.
       branch_taken P b _
@@ -150,9 +152,9 @@ module _ (s : Stacks) where
       (λ b' p good. made s te ti none kind.While (statement (while t b')) (while_one b ∙ good)
       (λ w. ap (λ (i : Item). node (stmt_label kind.While) (expr_row t end) (item_row i end) end w) (sym p)))))
 
-  do_while_matches : Matches (makes.Stmt kind.DoWhile 1 1 0) s (perform command.DoWhile s)
+  do_while_matches : Matches (makes.Stmt kind.DoWhile (parts_of 1 1 0)) s (perform command.DoWhile s)
   do_while_matches =
-      let P = Matches (makes.Stmt kind.DoWhile 1 1 0) s in
+      let P = Matches (makes.Stmt kind.DoWhile (parts_of 1 1 0)) s in
       pop_taken P s.exprs _ none (λ lack. inl lack) (λ t es te.
       pop_taken P s.stmts _ none (λ lack. inr (inl lack)) (λ b is ti.
       branch_taken P b _
@@ -162,18 +164,18 @@ module _ (s : Stacks) where
 
   -- lists of statements
 
-  block_matches : (c : ℕ) → Matches (makes.Stmt kind.Block 0 c 0) s (perform (command.Block c) s)
+  block_matches : (c : ℕ) → Matches (makes.Stmt kind.Block (parts_of 0 c 0)) s (perform (command.Block c) s)
   block_matches c =
-      let P = Matches (makes.Stmt kind.Block 0 c 0) s in
+      let P = Matches (makes.Stmt kind.Block (parts_of 0 c 0)) s in
       all_taken P c s.stmts _ (λ lack. inr (inl lack)) (λ parts is ti.
       stmts_taken P parts _
       (λ bad. misplaced s none ti none kind.Block (block_bad parts bad))
       (λ ss good row. made s none ti none kind.Block (statement (block ss)) (block_good parts good)
       (λ w. ap (λ (y : Row). node (stmt_label kind.Block) end y end w) row)))
 
-  case_matches : (tested : Bool) (c : ℕ) → Matches (makes.Stmt kind.Case (flag_number tested) c 0) s (perform (command.Case tested c) s)
+  case_matches : (tested : Bool) (c : ℕ) → Matches (makes.Stmt kind.Case (parts_of (flag_number tested) c 0)) s (perform (command.Case tested c) s)
   case_matches tested c =
-      let P = Matches (makes.Stmt kind.Case (flag_number tested) c 0) s in
+      let P = Matches (makes.Stmt kind.Case (parts_of (flag_number tested) c 0)) s in
       first_if_taken P tested s.exprs _ (λ lack. inl lack) (λ e es p te.
       all_taken P c s.stmts _ (λ lack. inr (inl lack)) (λ parts is ti.
       stmts_taken P parts _
@@ -181,9 +183,9 @@ module _ (s : Stacks) where
       (λ ss good row. made s te ti none kind.Case (case e ss) (case_as_block parts tested ∙ block_good parts good)
       (λ w. ap₂ (λ (x y : Row). node (stmt_label kind.Case) x y end w) (sym (optional_stack e [])) row))))
 
-  switch_matches : (c : ℕ) → Matches (makes.Stmt kind.Switch 1 c 0) s (perform (command.Switch c) s)
+  switch_matches : (c : ℕ) → Matches (makes.Stmt kind.Switch (parts_of 1 c 0)) s (perform (command.Switch c) s)
   switch_matches c =
-      let P = Matches (makes.Stmt kind.Switch 1 c 0) s in
+      let P = Matches (makes.Stmt kind.Switch (parts_of 1 c 0)) s in
       pop_taken P s.exprs _ none (λ lack. inl lack) (λ d es te.
       all_taken P c s.stmts _ (λ lack. inr (inl lack)) (λ parts is ti.
       cases_taken P parts _ (λ bad. misplaced s te ti none kind.Switch (switch_bad parts bad)) (λ cs a.
@@ -205,7 +207,7 @@ module _ (s : Stacks) where
         row ∙ sym (stmts_front ti),
       )))
 
-pub made_matches : (c : Command) (s : Stacks) → Listed c → Matches (made_by c) s (perform c s)
+made_matches : (c : Command) (s : Stacks) → Listed c → Matches (made_by c) s (perform c s)
 made_matches (command.Number b) s ok = expr_made s none (expression_kind.Number b) (number b) (λ w. refl)
 made_matches (command.Word w) s ok = expr_made s none (expression_kind.Word w) (word w) (λ w'. refl)
 made_matches (command.Name n) s ok = expr_made s none (expression_kind.Name n) (name n) (λ w. refl)
@@ -233,3 +235,6 @@ made_matches command.Continue s ok = made s none none none kind.Continue (statem
 made_matches (command.Case t c) s ok = case_matches s t c
 made_matches (command.Switch c) s ok = switch_matches s c
 made_matches (command.Body c) s ok = body_matches s c
+
+pub making_matches : (c : Command) (s : Stacks) (m : Making) → m ≡ made_by c → Listed c → Matches m s (perform c s)
+making_matches c s m made ok = subst (λ (x : Making). Matches x s (perform c s)) (sym made) (made_matches c s ok)

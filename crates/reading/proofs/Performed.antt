@@ -41,9 +41,9 @@ pub spare_chain : (ls : List ℕ) (p : Pool) → 0 < p.count → Chain ls p.head
 spare_chain ls p h c = chain_rest ls p.head p.count c (omega arith)
 
 -- a chain's pool never tells a place outside: what it lacks is a spare
-pub lacking : (f : SheetFault) (tag : ℕ) (ls : List ℕ) (p : Pool) → Chain ls p.head p.count → NoSpare f tag (length ls) p → (f ≡ SparesFault (Empty tag)) × (p.count ≡ 0)
-lacking f tag ls p c (inl h) = h
-lacking f tag ls p c (inr h) = let q = chain_first ls p.head p.count c (let n = h.1 in omega arith) in let n = h.2 in absurd (omega arith)
+pub lacking : (f : SheetFault) (t : Table) (ls : List ℕ) (p : Pool) → Chain ls p.head p.count → NoSpare f t (length ls) p → (f ≡ SparesFault (Empty t)) × (p.count ≡ 0)
+lacking f t ls p c (inl h) = h
+lacking f t ls p c (inr h) = let q = chain_first ls p.head p.count c (let n = h.1 in omega arith) in let n = h.2 in absurd (omega arith)
 
 -- spending the last record is refused, one of more is counted
 pub spent_none : (n : ℕ) (t : Table) (k : ℕ → Verdict) → n ≡ 0 → spend n t k ≡ turned_away (no_spare t)
@@ -111,7 +111,7 @@ module _ (es : List ExprRecord) (ss : List StmtRecord) (ds : List DeclRecord) (d
       expr_judged (puts_expr e s') (Ok u) d' es' q put = expr_held e s' d' es' q put
       expr_judged (puts_expr e s') (Err f) d' es' q (inl why, same_d, same_es) = let c = holds.exprs in let h = q.0.exprs in let w = why.0 in absurd (omega arith)
       expr_judged (puts_expr e s') (Err f) d' es' q (inr why, same_d, same_es) =
-          let w = lacking why.1.0 0 (expr_links es) d.pools.exprs holds.owned.chains.exprs why.1.2 in
+          let w = lacking why.1.0 Expressions (expr_links es) d.pools.exprs holds.owned.chains.exprs why.1.2 in
           let z = spares_of.0 in
           rw (spent_none m.spares.exprs Expressions _ (omega arith))
           (why.1.1 ∙ ap Sheet w.0, ap (λ t. record { exprs = t; stmts = ss; decls = ds }) same_es, same_d)
@@ -169,7 +169,7 @@ module _ (es : List ExprRecord) (ss : List StmtRecord) (ds : List DeclRecord) (d
       declarator_judged (puts_declarator v s') (Ok u) d' es' ds' q put = declarator_held v s' d' es' ds' q put
       declarator_judged (puts_declarator v s') (Err f) d' es' ds' q (inl why, same_d, same_es, same_ds) = let c = holds.exprs in let h = q.0.exprs in let w = why.0 in absurd (omega arith)
       declarator_judged (puts_declarator v s') (Err f) d' es' ds' q (inr why, same_d, same_es, same_ds) =
-          let w = lacking why.1.0 2 (decl_links ds) d.pools.decls holds.owned.chains.decls why.1.2 in
+          let w = lacking why.1.0 Declarators (decl_links ds) d.pools.decls holds.owned.chains.decls why.1.2 in
           let z = spares_of.2 in
           rw (spent_none m.spares.decls Declarators _ (omega arith))
           (why.1.1 ∙ ap Sheet w.0, (λ i. record { exprs = same_es i; stmts = ss; decls = same_ds i }), same_d)

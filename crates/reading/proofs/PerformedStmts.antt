@@ -10,7 +10,7 @@ use Rattle.script.specs.Judge.{Model, complete, Verdict, turned_away, taken, set
 use Rattle.faults.specs.declared.fault.ReadFault.{ReadFault}
 use Rattle.faults.specs.declared.fault.ReadFault.TheVariants.{Sheet}
 use Rattle.reading.specs.declared.making.Making.TheVariants as makes
-use Rattle.reading.specs.declared.build.Parts.{Parts}
+use Rattle.reading.specs.declared.making.Parts.{Parts}
 use Rattle.records.specs.declared.record.Draft.{Draft}
 use Rattle.records.specs.declared.record.ExprRecord.{ExprRecord}
 use Rattle.records.specs.declared.record.StmtRecord.{StmtRecord}
@@ -62,10 +62,10 @@ alone_not (x ∷ xs) (y ∷ ys) [] v h = refl
 alone_not (x ∷ xs) (y ∷ ys) (z ∷ zs) v h = refl
 
 clash : {b : Bool} → true ≡ b → b ≡ false → ⊥
-clash p q = let z : ◌≡◌ {A = ℕ} 0 1 = cc in omega arith
+clash p q = cc
 
 clash' : {b : Bool} → false ≡ b → b ≡ true → ⊥
-clash' p q = let z : ◌≡◌ {A = ℕ} 0 1 = cc in omega arith
+clash' p q = cc
 
 module _ (es : List ExprRecord) (ss : List StmtRecord) (ds : List DeclRecord) (d : Draft) (m : Model) (holds : Holds (record { exprs = es; stmts = ss; decls = ds }) d m) (reads : body_root d.stage m.stage ≡ []) where
   abbrev values : Row
@@ -79,7 +79,7 @@ module _ (es : List ExprRecord) (ss : List StmtRecord) (ds : List DeclRecord) (d
 
   -- a statement or a case
   module _ (k : StatementKind) (n : Parts) where
-    stacked : Enough m.stacks n.exprs n.stmts n.decls → Stacked es ss ds d n inner names
+    stacked : Enough m.stacks n → Stacked es ss ds d n inner names
     stacked q = record {
       short = holds.owned.short;
       stmts = holds.owned.held.1.0;
@@ -88,20 +88,18 @@ module _ (es : List ExprRecord) (ss : List StmtRecord) (ds : List DeclRecord) (d
       decls_long = (let l = decl_row_length m.stacks.decls in let h = q.decls in omega arith);
     }
 
-    enough_of : EnoughCounted d n → Enough m.stacks n.exprs n.stmts n.decls
-    enough_of q = let a = holds.exprs in let b = holds.stmts in let c = holds.decls in record { exprs = (let h = q.0 in omega arith); stmts = (let h = q.1 in omega arith); decls = (let h = q.2 in omega arith) }
-
-    wanting_not : Wanting m.stacks n.exprs n.stmts n.decls → EnoughCounted d n → ⊥
+    wanting_not : Wanting m.stacks n → EnoughCounted d n → ⊥
     wanting_not (inl h) q = let a = holds.exprs in let g = q.0 in omega arith
     wanting_not (inr (inl h)) q = let a = holds.stmts in let g = q.1 in omega arith
     wanting_not (inr (inr h)) q = let a = holds.decls in let g = q.2 in omega arith
 
-    enough_not : Enough m.stacks n.exprs n.stmts n.decls → WantingCounted d n → ⊥
+    enough_not : Enough m.stacks n → WantingCounted d n → ⊥
     enough_not q (inl h) = let a = holds.exprs in let g = q.exprs in omega arith
     enough_not q (inr (inl h)) = let a = holds.stmts in let g = q.stmts in omega arith
     enough_not q (inr (inr h)) = let a = holds.decls in let g = q.decls in omega arith
 
-    stmt_held : (v : Item) (s' : Stacks) (d' : Draft) (es' : List ExprRecord) (ss' : List StmtRecord) (ds' : List DeclRecord) → Matches (makes.Stmt k n.exprs n.stmts n.decls) m.stacks (puts_item v s') → PutStmt (Ok tt) k n d es ss ds d' es' ss' ds' →
+    stmt_held : (v : Item) (s' : Stacks) (d' : Draft) (es' : List ExprRecord) (ss' : List StmtRecord) (ds' : List DeclRecord) →
+        Matches (makes.Stmt k n) m.stacks (puts_item v s') → PutStmt (Ok tt) k n d es ss ds d' es' ss' ds' →
         Judged (Ok tt) (settled (puts_item v s') m.spares) (record { exprs = es; stmts = ss; decls = ds }) d (record { exprs = es'; stmts = ss'; decls = ds' }) d'
     stmt_held v s' d' es' ss' ds' q put =
         let head = d.pools.stmts.head in
@@ -143,7 +141,8 @@ module _ (es : List ExprRecord) (ss : List StmtRecord) (ds : List DeclRecord) (d
           spares = (λ i. record { exprs = sym sp.0 i; stmts = ap (λ y. y - 1) (sym sp.1) i; decls = sym sp.2 i });
         })))
 
-    pub stmt_judged : (p : Performed) (r : Result (Unit {0}) ReadFault) (d' : Draft) (es' : List ExprRecord) (ss' : List StmtRecord) (ds' : List DeclRecord) → Matches (makes.Stmt k n.exprs n.stmts n.decls) m.stacks p → PutStmt r k n d es ss ds d' es' ss' ds' →
+    pub stmt_judged : (p : Performed) (r : Result (Unit {0}) ReadFault) (d' : Draft) (es' : List ExprRecord) (ss' : List StmtRecord) (ds' : List DeclRecord) →
+        Matches (makes.Stmt k n) m.stacks p → PutStmt r k n d es ss ds d' es' ss' ds' →
         Judged r (settled p m.spares) (record { exprs = es; stmts = ss; decls = ds }) d (record { exprs = es'; stmts = ss'; decls = ds' }) d'
     stmt_judged lacks (Ok u) d' es' ss' ds' q put = absurd (wanting_not q put.0)
     stmt_judged lacks (Err f) d' es' ss' ds' q (inl why, same_d, same_es, same_ss, same_ds) = (why.1, (λ i. record { exprs = same_es i; stmts = same_ss i; decls = same_ds i }), same_d)
@@ -158,7 +157,7 @@ module _ (es : List ExprRecord) (ss : List StmtRecord) (ds : List DeclRecord) (d
     stmt_judged (puts_item v s') (Err f) d' es' ss' ds' q (inl why, same_d, same_es, same_ss, same_ds) = absurd (enough_not q.0 why.0)
     stmt_judged (puts_item v s') (Err f) d' es' ss' ds' q (inr (inl why), same_d, same_es, same_ss, same_ds) = absurd (clash' (why.2 es inner names (stacked q.0)) q.1)
     stmt_judged (puts_item v s') (Err f) d' es' ss' ds' q (inr (inr why), same_d, same_es, same_ss, same_ds) =
-        let w = lacking why.2.0 1 (stmt_links ss) d.pools.stmts holds.owned.chains.stmts why.2.2 in
+        let w = lacking why.2.0 Statements (stmt_links ss) d.pools.stmts holds.owned.chains.stmts why.2.2 in
         let z = (spares_of es ss ds d m holds reads).1 in
         rw (spent_none m.spares.stmts Statements _ (omega arith))
         (why.2.1 ∙ ap Sheet w.0, (λ i. record { exprs = same_es i; stmts = same_ss i; decls = same_ds i }), same_d)

@@ -1,5 +1,5 @@
 -- What a draft that is held leaves room for: its counts are below the number of records.
-use Rattle.std.proofs.Common.{◌≡◌, ℕ, ◌<◌, [], refl, arith}
+use Rattle.std.proofs.Common.{◌≡◌, ◌<◌, [], refl, arith}
 use Rattle.pool.specs.Chain.{nowhere}
 use Rattle.script.specs.declared.Awaiting.{Awaiting}
 use Rattle.script.specs.Judge.{Stage as ModelStage, reading, complete, Model}
@@ -54,4 +54,4 @@ pub no_body_yet : (s : Stage) (t : ModelStage) (a : Awaiting) → t ≡ reading 
 no_body_yet (Reading x) (reading b) a e = refl
 no_body_yet (Reading x) (complete ss) a e = refl
 no_body_yet (Complete at) (reading b) a e = refl
-no_body_yet (Complete at) (complete ss) a e = let z : ◌≡◌ {A = ℕ} 0 1 = cc in absurd (omega arith)
+no_body_yet (Complete at) (complete ss) a e = cc

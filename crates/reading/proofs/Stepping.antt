@@ -1,5 +1,5 @@
 -- One byte, from what is awaited to what is judged.
-use Rattle.std.proofs.Common.{◌≡◌, ℕ, ◌<◌, Bool, true, false, eqb, ltb, List, [], ◌∷◌, Ok, Err, Result, sym, refl, ap, ◌∙◌, subst, arith, ltb-false}
+use Rattle.std.proofs.Common.{◌≡◌, ℕ, ◌<◌, Bool, true, false, eqb, ltb, Ok, Err, Result, sym, refl, ap, ◌∙◌, subst, ltb-false}
 use mathlib.Core.Option.{Option, none, some}
 use Rattle.script.specs.declared.Code.{Code}
 use Rattle.script.specs.declared.Code.TheVariants as code
@@ -8,52 +8,33 @@ use Rattle.script.specs.declared.Counted.TheVariants as counted
 use Rattle.script.specs.declared.Awaiting.{Awaiting}
 use Rattle.script.specs.declared.Awaiting.TheVariants as awaiting
 use Rattle.script.specs.declared.Command.{Command}
-use Rattle.script.specs.Format.{Refusal, body_complete, Lexed, refused, awaits, ends, lexed, begun, begun_or_none, code_of, listed, count_ends, two, word_of, operator_of, kind_of, head_of, flag_of}
+use Rattle.script.specs.Format.{Lexed, refused, awaits, ends, lexed, begun, begun_or_none}
+use Rattle.script.specs.Format.{code_of, listed, count_ends, two, word_of, operator_of, kind_of, head_of, flag_of}
 use Rattle.script.specs.Judge.{Stage as ModelStage, reading, complete, Model, Verdict, turned_away, taken, judge, judge_at, after_lexing, settled}
-use Rattle.script.specs.Stacks.{Stacks, perform}
+use Rattle.script.specs.Stacks.{perform}
 use Rattle.script.proofs.Keeping.{taken_keeps_sound}
 use Rattle.faults.specs.declared.fault.ReadFault.{ReadFault}
-use Rattle.faults.specs.declared.fault.ReadFault.TheVariants.{BodyComplete}
-use Rattle.reading.specs.declared.reader.Step.TheVariants.{Await, Perform}
+use Rattle.reading.specs.declared.reader.Step.TheVariants.{Perform}
 use Rattle.records.specs.declared.record.Stage.{Stage}
 use Rattle.records.specs.declared.record.Stage.TheVariants.{Reading, Complete}
 use Rattle.records.specs.declared.record.Draft.{Draft}
-use Rattle.records.specs.Heap.{Heap, expr_at, stmt_at, decl_at}
-use Rattle.records.specs.Owned.{Root, Owns}
-use Rattle.records.specs.Embedding.{expr_stack, stmt_stack, decl_stack}
+use Rattle.records.specs.Heap.{Heap}
 use Rattle.reading.specs.Making.{Listed}
 use Rattle.reading.specs.Steps.{told}
-use Rattle.faults.specs.Faults.{fault_of}
 use Rattle.records.specs.Holds.{Holds, Reads, SameStage}
 use Rattle.reading.specs.Judged.{Judged, Stepped}
-use Rattle.reading.proofs.Rooms.{no_body_yet}
 
 -- the stage of a draft is its model's
 pub reading_stage : (s : Stage) (t : ModelStage) (a : Awaiting) → SameStage s t → s ≡ Reading a → t ≡ reading a
 reading_stage (Reading x) (reading y) a h e = let z : x ≡ a = cc in ap reading (sym h ∙ z)
 reading_stage (Reading x) (complete ss) a h e = absurd h
 reading_stage (Complete at) (reading y) a h e = absurd h
-reading_stage (Complete at) (complete ss) a h e = let z : ◌≡◌ {A = ℕ} 0 1 = cc in absurd (omega arith)
-
-complete_stage : (s : Stage) (t : ModelStage) (at : ℕ) (k : Stacks) (n : _) (b : ℕ) → SameStage s t → s ≡ Complete at → judge_at t k n b ≡ turned_away body_complete
-complete_stage (Reading x) t at k n b h e = let z : ◌≡◌ {A = ℕ} 0 1 = cc in absurd (omega arith)
-complete_stage (Complete x) (reading y) at k n b h e = absurd h
-complete_stage (Complete x) (complete ss) at k n b h e = refl
+reading_stage (Complete at) (complete ss) a h e = cc
 
 -- what a byte was told to be is what it is
-pub told_refused : (x : Lexed) (f : ReadFault) → Err f ≡ told x → (r : Refusal) × (x ≡ refused r) × (f ≡ fault_of r)
-told_refused (refused r) f e = (r, refl, cc)
-told_refused (awaits a) f e = let z : ◌≡◌ {A = ℕ} 0 1 = cc in absurd (omega arith)
-told_refused (ends c) f e = let z : ◌≡◌ {A = ℕ} 0 1 = cc in absurd (omega arith)
-
-pub told_awaits : (x : Lexed) (a : Awaiting) → Ok (Await a) ≡ told x → x ≡ awaits a
-told_awaits (refused r) a e = let z : ◌≡◌ {A = ℕ} 0 1 = cc in absurd (omega arith)
-told_awaits (awaits b) a e = let z : a ≡ b = cc in ap awaits (sym z)
-told_awaits (ends c) a e = let z : ◌≡◌ {A = ℕ} 0 1 = cc in absurd (omega arith)
-
 pub told_ends : (x : Lexed) (c : Command) → Ok (Perform c) ≡ told x → x ≡ ends c
-told_ends (refused r) c e = let z : ◌≡◌ {A = ℕ} 0 1 = cc in absurd (omega arith)
-told_ends (awaits b) c e = let z : ◌≡◌ {A = ℕ} 0 1 = cc in absurd (omega arith)
+told_ends (refused r) c e = cc
+told_ends (awaits b) c e = cc
 told_ends (ends b) c e = let z : c ≡ b = cc in ap ends (sym z)
 
 -- a whole command has counts that are listed
@@ -145,45 +126,19 @@ lexed_listed (awaiting.CountHigh c low) b = count_listed c (two low b)
 pub ends_listed : (a : Awaiting) (b : ℕ) (c : Command) → lexed a b ≡ ends c → Listed c
 ends_listed a b c e = subst (λ (x : Lexed). ListedLexed x) e (lexed_listed a b)
 
-module _ (h : Heap) (d : Draft) (m : Model) (holds : Holds h d m) (b : ℕ) where
-  pub step_complete : (at : ℕ) → d.stage ≡ Complete at → Stepped (Err BodyComplete) (judge m b) h d h d
-  step_complete at e = rw (complete_stage d.stage m.stage at m.stacks m.spares b holds.stage e) (refl, refl, refl)
+module _ (h : Heap) (d : Draft) (m : Model) (holds : Holds h d m) (b : ℕ) (a : Awaiting) (reads : d.stage ≡ Reading a) where
+  judged_reading : judge m b ≡ after_lexing (lexed a b) m.stacks m.spares
+  judged_reading = ap (λ t. judge_at t m.stacks m.spares b) (reading_stage d.stage m.stage a holds.stage reads)
 
-  module _ (a : Awaiting) (reads : d.stage ≡ Reading a) where
-    pub judged_reading : judge m b ≡ after_lexing (lexed a b) m.stacks m.spares
-    judged_reading = ap (λ t. judge_at t m.stacks m.spares b) (reading_stage d.stage m.stage a holds.stage reads)
-
-    pub step_refused : (f : ReadFault) → Err f ≡ told (lexed a b) → Stepped (Err f) (judge m b) h d h d
-    step_refused f e =
-        let r = told_refused (lexed a b) f e in
-        rw (judged_reading ∙ ap (λ x. after_lexing x m.stacks m.spares) r.1) (r.2, refl, refl)
-
-    pub step_awaits : (n : Awaiting) → Ok (Await n) ≡ told (lexed a b) → Stepped (Ok tt) (judge m b) h d h (record { stage = Reading n; exprs = d.exprs; stmts = d.stmts; decls = d.decls; pools = d.pools })
-    step_awaits n e =
-        let x = told_awaits (lexed a b) n e in
-        let body = no_body_yet d.stage m.stage a (reading_stage d.stage m.stage a holds.stage reads) in
-        let root : List Root → List Root = λ r. (expr_at d.exprs.top, expr_stack m.stacks.exprs) ∷ (stmt_at d.stmts.top, stmt_stack m.stacks.stmts) ∷ (decl_at d.decls.top, decl_stack m.stacks.decls) ∷ r in
-        rw (judged_reading ∙ ap (λ y. after_lexing y m.stacks m.spares) x)
-        (record {
-          sound = record { stage = tt; stacks = holds.sound.stacks };
-          stage = refl;
-          alone = tt;
-          owned = subst (λ r. Owns h d.pools [] (root r)) body holds.owned;
-          exprs = holds.exprs;
-          stmts = holds.stmts;
-          decls = holds.decls;
-          spares = holds.spares;
-        })
-
-    pub step_performs : (c : Command) (r : Result (Unit {0}) ReadFault) (h' : Heap) (d' : Draft) → b < 256 → Ok (Perform c) ≡ told (lexed a b) →
-        (Reads m → Listed c → Judged r (settled (perform c m.stacks) m.spares) h d h' d') → Stepped r (judge m b) h d h' d'
-    step_performs c r h' d' small e judged =
-        let x = told_ends (lexed a b) c e in
-        let j : judge m b ≡ settled (perform c m.stacks) m.spares = judged_reading ∙ ap (λ y. after_lexing y m.stacks m.spares) x in
-        stepped r (settled (perform c m.stacks) m.spares) j (judged (a, reading_stage d.stage m.stage a holds.stage reads) (ends_listed a b c x))
-      where
-        stepped : (r : Result (Unit {0}) ReadFault) (v : Verdict) → judge m b ≡ v → Judged r v h d h' d' → Stepped r (judge m b) h d h' d'
-        stepped (Ok u) (turned_away q) e k = absurd k
-        stepped (Ok u) (taken m') e k = rw e (k (taken_keeps_sound m m' b small holds.sound e))
-        stepped (Err f) (turned_away q) e k = rw e k
-        stepped (Err f) (taken m') e k = absurd k
+  pub step_performs : (c : Command) (r : Result (Unit {0}) ReadFault) (h' : Heap) (d' : Draft) → b < 256 → Ok (Perform c) ≡ told (lexed a b) →
+      (Reads m → Listed c → Judged r (settled (perform c m.stacks) m.spares) h d h' d') → Stepped r (judge m b) h d h' d'
+  step_performs c r h' d' small e judged =
+      let x = told_ends (lexed a b) c e in
+      let j : judge m b ≡ settled (perform c m.stacks) m.spares = judged_reading ∙ ap (λ y. after_lexing y m.stacks m.spares) x in
+      stepped r (settled (perform c m.stacks) m.spares) j (judged (a, reading_stage d.stage m.stage a holds.stage reads) (ends_listed a b c x))
+    where
+      stepped : (r : Result (Unit {0}) ReadFault) (v : Verdict) → judge m b ≡ v → Judged r v h d h' d' → Stepped r (judge m b) h d h' d'
+      stepped (Ok u) (turned_away q) e k = absurd k
+      stepped (Ok u) (taken m') e k = rw e (k (taken_keeps_sound m m' b small holds.sound e))
+      stepped (Err f) (turned_away q) e k = rw e k
+      stepped (Err f) (taken m') e k = absurd k

@@ -6,6 +6,8 @@ use Rattle.pool.specs.declared.PoolFault.TheVariants.{Empty, Outside}
 use Rattle.script.specs.declared.Awaiting.TheVariants as awaiting
 use Rattle.script.specs.declared.ExpressionKind.{ExpressionKind}
 use Rattle.script.specs.declared.StatementKind.{StatementKind}
+use Rattle.script.specs.declared.Table.{Table}
+use Rattle.script.specs.declared.Table.TheVariants.{Declarators, Expressions, Statements}
 use Rattle.faults.specs.declared.fault.SheetFault.{SheetFault}
 use Rattle.faults.specs.declared.fault.SheetFault.TheVariants.{Spares}
 use Rattle.faults.specs.declared.fault.ReadFault.{ReadFault}
@@ -16,7 +18,7 @@ use Rattle.records.specs.declared.record.Draft.{Draft}
 use Rattle.records.specs.declared.record.ExprRecord.{ExprRecord}
 use Rattle.records.specs.declared.record.StmtRecord.{StmtRecord}
 use Rattle.records.specs.declared.record.DeclRecord.{DeclRecord}
-use Rattle.reading.specs.declared.build.Parts.{Parts}
+use Rattle.reading.specs.declared.making.Parts.{Parts}
 use Rattle.records.specs.Heap.{stmt_at, expr_links, stmt_links, decl_links}
 use Rattle.records.specs.Rows.{Row, end, At, row_length}
 use Rattle.records.specs.Owned.{Short}
@@ -29,17 +31,17 @@ abbrev pub HasSpare : ℕ → Pool → Type 0
 HasSpare n p = (0 < p.count) × (p.head < n)
 
 -- it has none, or tells a place outside
-abbrev pub NoSpare : SheetFault → ℕ → ℕ → Pool → Type 0
-NoSpare f tag n p = ((f ≡ Spares (Empty tag)) × (p.count ≡ 0)) ⊎ ((f ≡ Spares (Outside tag)) × (0 < p.count) × (n ≤ p.head))
+abbrev pub NoSpare : SheetFault → Table → ℕ → Pool → Type 0
+NoSpare f table n p = ((f ≡ Spares (Empty table)) × (p.count ≡ 0)) ⊎ ((f ≡ Spares (Outside table)) × (0 < p.count) × (n ≤ p.head))
 
 -- the pool without its first spare
 abbrev pub without_first : List ℕ → Pool → Pool
 without_first links p = record { head = slice_index links p.head; count = p.count - 1 }
 
 -- a spare record is taken, or the pool's fault is told
-abbrev pub Took : Result ℕ SheetFault → ℕ → List ℕ → Pool → Pool → Type 0
-Took (Ok at) tag links p p' = (at ≡ p.head) × HasSpare (length links) p × (p' ≡ without_first links p)
-Took (Err f) tag links p p' = NoSpare f tag (length links) p × (p' ≡ p)
+abbrev pub Took : Result ℕ SheetFault → Table → List ℕ → Pool → Pool → Type 0
+Took (Ok at) table links p p' = (at ≡ p.head) × HasSpare (length links) p × (p' ≡ without_first links p)
+Took (Err f) table links p p' = NoSpare f table (length links) p × (p' ≡ p)
 
 -- a command is performed, and the next one is awaited
 abbrev pub awaiting_command : Stage
@@ -61,14 +63,14 @@ draft_with_expr n d t = record {
 }
 
 -- too few items, or no spare
-abbrev pub NotPut : ReadFault → ℕ → ℕ → ℕ → ℕ → Pool → Type 0
-NotPut f wanted count tag n p = ((count < wanted) × (f ≡ TooFew)) ⊎ ((wanted ≤ count) × ((g : SheetFault) × (f ≡ Sheet g) × NoSpare g tag n p))
+abbrev pub NotPut : ReadFault → ℕ → ℕ → Table → ℕ → Pool → Type 0
+NotPut f wanted count table n p = ((count < wanted) × (f ≡ TooFew)) ⊎ ((wanted ≤ count) × ((g : SheetFault) × (f ≡ Sheet g) × NoSpare g table n p))
 
 -- an expression of the topmost n was put, or why not, and then nothing changed
 abbrev pub PutExpr : Result (Unit {0}) ReadFault → ExpressionKind → ℕ → Draft → List ExprRecord → Draft → List ExprRecord → Type 0
 PutExpr (Ok u) k n d t d' t' =
     (n ≤ d.exprs.count) × HasSpare (length (expr_links t)) d.pools.exprs × (d' ≡ draft_with_expr n d t) × (t' ≡ expr_put k n d t)
-PutExpr (Err f) k n d t d' t' = NotPut f n d.exprs.count 0 (length (expr_links t)) d.pools.exprs × (d' ≡ d) × (t' ≡ t)
+PutExpr (Err f) k n d t d' t' = NotPut f n d.exprs.count Expressions (length (expr_links t)) d.pools.exprs × (d' ≡ d) × (t' ≡ t)
 
 -- a declarator whose value was the topmost expression, if it has one
 abbrev pub declarator_put : ℕ → ℕ → Draft → List ExprRecord → List DeclRecord → List DeclRecord
@@ -90,7 +92,7 @@ PutDeclarator (Ok u) x n d es ds d' es' ds' =
     (n ≤ d.exprs.count) × HasSpare (length (decl_links ds)) d.pools.decls × (d' ≡ draft_with_declarator n d es ds)
     × (es' ≡ (turned_exprs n es d.exprs.top nowhere).table) × (ds' ≡ declarator_put x n d es ds)
 PutDeclarator (Err f) x n d es ds d' es' ds' =
-    NotPut f n d.exprs.count 2 (length (decl_links ds)) d.pools.decls × (d' ≡ d) × (es' ≡ es) × (ds' ≡ ds)
+    NotPut f n d.exprs.count Declarators (length (decl_links ds)) d.pools.decls × (d' ≡ d) × (es' ≡ es) × (ds' ≡ ds)
 
 -- the stacks have as many items as a statement takes, or one of them has not
 abbrev pub EnoughCounted : Draft → Parts → Type 0
@@ -146,7 +148,7 @@ PutStmt (Ok u) k n d es ss ds d' es' ss' ds' =
 PutStmt (Err f) k n d es ss ds d' es' ss' ds' =
     ((WantingCounted d n × (f ≡ TooFew))
     ⊎ ((EnoughCounted d n × (f ≡ Misplaced) × FitsAs false k n d ss ds)
-    ⊎ (EnoughCounted d n × FitsAs true k n d ss ds × ((g : SheetFault) × (f ≡ Sheet g) × NoSpare g 1 (length (stmt_links ss)) d.pools.stmts))))
+    ⊎ (EnoughCounted d n × FitsAs true k n d ss ds × ((g : SheetFault) × (f ≡ Sheet g) × NoSpare g Statements (length (stmt_links ss)) d.pools.stmts))))
     × (d' ≡ d) × (es' ≡ es) × (ss' ≡ ss) × (ds' ≡ ds)
 
 -- whether a body's statements hold a case

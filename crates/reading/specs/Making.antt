@@ -7,6 +7,7 @@ use Rattle.script.specs.declared.Command.{Command}
 use Rattle.script.specs.declared.Command.TheVariants as command
 use Rattle.script.specs.Tree.{Expr}
 use Rattle.script.specs.Stacks.{Item, Declarator, Stacks, Performed, lacks, misplaces, puts_expr, puts_item, puts_declarator, puts_body}
+use Rattle.reading.specs.declared.making.Parts.{Parts}
 use Rattle.reading.specs.declared.making.Making.{Making}
 use Rattle.reading.specs.declared.making.Making.TheVariants as makes
 use Rattle.records.specs.Heap.{expr_label, stmt_label, decl_label}
@@ -15,6 +16,10 @@ use Rattle.records.specs.Embedding.{expr_row, item_row, declarator_row, stmts_ro
 use Rattle.records.specs.Flags.{one_if}
 use Rattle.shapes.specs.Shape.{head_expressions, init_statements, fits_stmt, survey, decl_survey, first_declared}
 use Rattle.records.specs.Turning.{front, behind}
+
+-- so many parts of each stack
+abbrev pub parts_of : ℕ → ℕ → ℕ → Parts
+parts_of a b c = record { exprs = a; stmts = b; decls = c }
 
 -- what a command makes, and of how many parts
 abbrev pub made_by : Command → Making
@@ -30,20 +35,20 @@ made_by command.Not = makes.Expr expression.Not 1
 made_by command.Void = makes.Expr expression.Void 1
 made_by command.StrictEquality = makes.Expr expression.StrictEquality 2
 made_by (command.Declarator n v) = makes.Decl n (one_if v)
-made_by command.Empty = makes.Stmt kind.Empty 0 0 0
-made_by command.Expression = makes.Stmt kind.Expression 1 0 0
-made_by (command.Declaration k c) = makes.Stmt (kind.Declaration k) 0 0 c
-made_by (command.Return v) = makes.Stmt kind.Return (one_if v) 0 0
-made_by command.Throw = makes.Stmt kind.Throw 1 0 0
-made_by (command.If a) = makes.Stmt kind.If 1 (1 + one_if a) 0
-made_by (command.Block c) = makes.Stmt kind.Block 0 c 0
-made_by command.While = makes.Stmt kind.While 1 1 0
-made_by command.DoWhile = makes.Stmt kind.DoWhile 1 1 0
-made_by (command.For h) = makes.Stmt (kind.For h) (head_expressions h) (1 + init_statements h.init) 0
-made_by command.Break = makes.Stmt kind.Break 0 0 0
-made_by command.Continue = makes.Stmt kind.Continue 0 0 0
-made_by (command.Case t c) = makes.Stmt kind.Case (one_if t) c 0
-made_by (command.Switch c) = makes.Stmt kind.Switch 1 c 0
+made_by command.Empty = makes.Stmt kind.Empty (parts_of 0 0 0)
+made_by command.Expression = makes.Stmt kind.Expression (parts_of 1 0 0)
+made_by (command.Declaration k c) = makes.Stmt (kind.Declaration k) (parts_of 0 0 c)
+made_by (command.Return v) = makes.Stmt kind.Return (parts_of (one_if v) 0 0)
+made_by command.Throw = makes.Stmt kind.Throw (parts_of 1 0 0)
+made_by (command.If a) = makes.Stmt kind.If (parts_of 1 (1 + one_if a) 0)
+made_by (command.Block c) = makes.Stmt kind.Block (parts_of 0 c 0)
+made_by command.While = makes.Stmt kind.While (parts_of 1 1 0)
+made_by command.DoWhile = makes.Stmt kind.DoWhile (parts_of 1 1 0)
+made_by (command.For h) = makes.Stmt (kind.For h) (parts_of (head_expressions h) (1 + init_statements h.init) 0)
+made_by command.Break = makes.Stmt kind.Break (parts_of 0 0 0)
+made_by command.Continue = makes.Stmt kind.Continue (parts_of 0 0 0)
+made_by (command.Case t c) = makes.Stmt kind.Case (parts_of (one_if t) c 0)
+made_by (command.Switch c) = makes.Stmt kind.Switch (parts_of 1 c 0)
 made_by (command.Body c) = makes.Body c
 
 -- counts that the operands allow
@@ -90,30 +95,31 @@ pub record LessDecls (n : ℕ) (before after : List Declarator) : Type 0 where
   pub count : length after + n ≡ length before
 
 -- the stacks have as many items as are taken
-pub record Enough (s : Stacks) (a b c : ℕ) : Type 0 where
-  pub exprs : a ≤ length s.exprs
-  pub stmts : b ≤ length s.stmts
-  pub decls : c ≤ length s.decls
+pub record Enough (s : Stacks) (n : Parts) : Type 0 where
+  pub exprs : n.exprs ≤ length s.exprs
+  pub stmts : n.stmts ≤ length s.stmts
+  pub decls : n.decls ≤ length s.decls
 
-abbrev pub Wanting : Stacks → ℕ → ℕ → ℕ → Type 0
-Wanting s a b c = (length s.exprs < a) ⊎ (length s.stmts < b) ⊎ (length s.decls < c)
+abbrev pub Wanting : Stacks → Parts → Type 0
+Wanting s n = (length s.exprs < n.exprs) ⊎ (length s.stmts < n.stmts) ⊎ (length s.decls < n.decls)
 
-pub record Left (s : Stacks) (a b c : ℕ) (s' : Stacks) : Type 0 where
-  pub exprs : LessExprs a s.exprs s'.exprs
-  pub stmts : LessStmts b s.stmts s'.stmts
-  pub decls : LessDecls c s.decls s'.decls
+pub record Left (s : Stacks) (n : Parts) (s' : Stacks) : Type 0 where
+  pub exprs : LessExprs n.exprs s.exprs s'.exprs
+  pub stmts : LessStmts n.stmts s.stmts s'.stmts
+  pub decls : LessDecls n.decls s.decls s'.decls
 
 -- the parts of a statement that is made fit its kind
-abbrev pub fitting : StatementKind → ℕ → ℕ → ℕ → Stacks → Bool
-fitting k a b c s =
-    fits_stmt k a (survey (front b (stmt_stack s.stmts) end)) (decl_survey (front c (decl_stack s.decls) end)) (first_declared (front b (stmt_stack s.stmts) end))
+abbrev pub fitting : StatementKind → Parts → Stacks → Bool
+fitting k n s =
+    fits_stmt k n.exprs (survey (front n.stmts (stmt_stack s.stmts) end)) (decl_survey (front n.decls (decl_stack s.decls) end))
+    (first_declared (front n.stmts (stmt_stack s.stmts) end))
 
 -- what performing a command puts is what it makes
 abbrev pub Matches : Making → Stacks → Performed → Type 0
 Matches (makes.Expr k n) s lacks = length s.exprs < n
 Matches (makes.Expr k n) s misplaces = ⊥
 Matches (makes.Expr k n) s (puts_expr e s') =
-    Enough s n 0 0 × Left s n 0 0 s' × ((w : Row) → expr_row e w ≡ node (expr_label k) (front n (expr_stack s.exprs) end) end end w)
+    Enough s (parts_of n 0 0) × Left s (parts_of n 0 0) s' × ((w : Row) → expr_row e w ≡ node (expr_label k) (front n (expr_stack s.exprs) end) end end w)
 Matches (makes.Expr k n) s (puts_item i s') = ⊥
 Matches (makes.Expr k n) s (puts_declarator d s') = ⊥
 Matches (makes.Expr k n) s (puts_body ss s') = ⊥
@@ -122,20 +128,22 @@ Matches (makes.Decl x n) s misplaces = ⊥
 Matches (makes.Decl x n) s (puts_expr e s') = ⊥
 Matches (makes.Decl x n) s (puts_item i s') = ⊥
 Matches (makes.Decl x n) s (puts_declarator d s') =
-    Enough s n 0 0 × Left s n 0 0 s' × ((w : Row) → declarator_row d w ≡ node (decl_label x) (front n (expr_stack s.exprs) end) end end w)
+    Enough s (parts_of n 0 0) × Left s (parts_of n 0 0) s' × ((w : Row) → declarator_row d w ≡ node (decl_label x) (front n (expr_stack s.exprs) end) end end w)
 Matches (makes.Decl x n) s (puts_body ss s') = ⊥
-Matches (makes.Stmt k a b c) s lacks = Wanting s a b c
-Matches (makes.Stmt k a b c) s misplaces = Enough s a b c × (fitting k a b c s ≡ false)
-Matches (makes.Stmt k a b c) s (puts_expr e s') = ⊥
-Matches (makes.Stmt k a b c) s (puts_item i s') =
-    Enough s a b c × (fitting k a b c s ≡ true) × Left s a b c s'
-    × ((w : Row) → item_row i w ≡ node (stmt_label k) (front a (expr_stack s.exprs) end) (front b (stmt_stack s.stmts) end) (front c (decl_stack s.decls) end) w)
-Matches (makes.Stmt k a b c) s (puts_declarator d s') = ⊥
-Matches (makes.Stmt k a b c) s (puts_body ss s') = ⊥
+Matches (makes.Stmt k n) s lacks = Wanting s n
+Matches (makes.Stmt k n) s misplaces = Enough s n × (fitting k n s ≡ false)
+Matches (makes.Stmt k n) s (puts_expr e s') = ⊥
+Matches (makes.Stmt k n) s (puts_item i s') =
+    Enough s n × (fitting k n s ≡ true) × Left s n s'
+    × ((w : Row) → item_row i w ≡ node (stmt_label k) (front n.exprs (expr_stack s.exprs) end) (front n.stmts (stmt_stack s.stmts) end)
+    (front n.decls (decl_stack s.decls) end) w)
+Matches (makes.Stmt k n) s (puts_declarator d s') = ⊥
+Matches (makes.Stmt k n) s (puts_body ss s') = ⊥
 Matches (makes.Body n) s lacks = length s.stmts < n
-Matches (makes.Body n) s misplaces = Enough s 0 n 0 × ((survey (front n (stmt_stack s.stmts) end)).cases ≢ 0)
+Matches (makes.Body n) s misplaces = Enough s (parts_of 0 n 0) × ((survey (front n (stmt_stack s.stmts) end)).cases ≢ 0)
 Matches (makes.Body n) s (puts_expr e s') = ⊥
 Matches (makes.Body n) s (puts_item i s') = ⊥
 Matches (makes.Body n) s (puts_declarator d s') = ⊥
 Matches (makes.Body n) s (puts_body ss s') =
-    Enough s 0 n 0 × Left s 0 n 0 s' × ((survey (front n (stmt_stack s.stmts) end)).cases ≡ 0) × (stmts_row ss ≡ front n (stmt_stack s.stmts) end)
+    Enough s (parts_of 0 n 0) × Left s (parts_of 0 n 0) s' × ((survey (front n (stmt_stack s.stmts) end)).cases ≡ 0)
+    × (stmts_row ss ≡ front n (stmt_stack s.stmts) end)

@@ -1,10 +1,8 @@
 -- Looking over the topmost items of a stack without taking them.
-use Rattle.std.specs.Prelude.{◌≡◌, ℕ, ◌+◌, ◌≤◌, Bool, true, false, List, None}
-use Rattle.pool.specs.Chain.{nowhere}
-use Rattle.shapes.specs.declared.rule.StmtSurvey.{StmtSurvey}
+use Rattle.std.specs.Prelude.{◌≡◌, ℕ, ◌≤◌, Bool, true, false, List, None}
 use Rattle.shapes.specs.declared.rule.DeclSurvey.{DeclSurvey}
 use Rattle.reading.specs.declared.build.Surveyed.{Surveyed}
-use Rattle.reading.specs.declared.build.Parts.{Parts}
+use Rattle.reading.specs.declared.making.Parts.{Parts}
 use Rattle.records.specs.declared.record.Draft.{Draft}
 use Rattle.records.specs.declared.record.ExprRecord.{ExprRecord}
 use Rattle.records.specs.declared.record.StmtRecord.{StmtRecord}
@@ -24,15 +22,11 @@ StmtTable = List StmtRecord
 abbrev pub DeclTable : Type 0
 DeclTable = List DeclRecord
 
--- counts that so many more statements cannot overflow
-pub record RoomFor (n : ℕ) (s : StmtSurvey) : Type 0 where
-  pub count : s.count + n ≤ nowhere
-  pub cases : s.cases ≤ s.count
-  pub defaults : s.defaults ≤ s.count
-  pub lexicals : s.lexicals ≤ s.count
-
 abbrev pub nothing_seen : Surveyed
 nothing_seen = record { survey = no_survey; first = None }
+
+abbrev pub no_decls_seen : DeclSurvey
+no_decls_seen = record { count = 0; bare = 0 }
 
 -- what was seen is what a row tells
 pub record SurveyedAs (seen : Surveyed) (r : Row) : Type 0 where

@@ -1,24 +1,25 @@
 // Putting what a command makes: its parts come off the stacks, and its record goes on one of them.
+// The tables come as slices: their spares lie in the draft, and a slice is known to be as long afterwards with no clause.
 ghost use Rattle.std.specs.Prelude.{◌≡◌, ℕ, ◌+◌, ◌-◌, ◌<◌, ◌≤◌, true, false, map, length};
 ghost use Rattle.pool.specs.Chain.{nowhere};
 ghost use Rattle.records.specs.Rows.{Row, end};
 ghost use Rattle.shapes.specs.Shape.{survey, decl_survey};
 ghost use Rattle.records.specs.Turning.{turned_exprs, turned_decls, front};
-ghost use Rattle.reading.specs.Surveying.{ExprTable, StmtTable, DeclTable, RoomFor, Surveys, SurveyedAs, DeclSurveys, nothing_seen, HasCase};
+ghost use Rattle.reading.specs.Surveying.{ExprTable, StmtTable, DeclTable, Surveys, SurveyedAs, DeclSurveys, nothing_seen, no_decls_seen, HasCase};
 ghost use Rattle.reading.specs.Building.{Took, PutExpr, PutDeclarator, EnoughCounted, WantingCounted, stmt_put, draft_with_stmt, FitsAs, PutStmt, AloneCounted, PutBody};
 
+use crate::making::Parts;
 use faults::{ReadFault, SheetFault};
 use pool::{Linked, NOWHERE, Pool};
 use records::{DeclRecord, Draft, ExprRecord, Stack, Stage, StmtRecord, turn};
-use script::{Awaiting, DeclarationKind, ExpressionKind, StatementKind};
+use script::{Awaiting, DeclarationKind, ExpressionKind, StatementKind, Table};
 use shapes::{DeclSurvey, StmtSurvey, fits_stmt, kind_declared, surveyed};
 
 // A spare record of a table.
-fn take<R: Linked>(pool: &mut Pool, table: &[R]) -> Result<u32, SheetFault>
-    ensures { Took result R.tag (map R.link table.now) pool.old pool.new }
+fn take<R: Linked<Table = Table>>(pool: &mut Pool, table: &[R]) -> Result<u32, SheetFault>
+    ensures { Took result R.table (map R.link table.now) pool.old pool.new }
 {
-    let at = pool.take(table)?;
-    Ok(at)
+    Ok(pool.take(table)?)
 }
 
 // An expression with its parts, from the top of the stack.
@@ -82,14 +83,6 @@ pub fn put_declarator(
     Ok(())
 }
 
-// The numbers of parts that a statement takes off the three stacks.
-#[derive(Clone, Copy)]
-pub struct Parts {
-    pub exprs: u32,
-    pub stmts: u32,
-    pub decls: u32,
-}
-
 fn enough(draft: &Draft, parts: Parts) -> bool
     ensures { elim result [ true ↦ EnoughCounted draft.now parts | false ↦ WantingCounted draft.now parts ] }
 {
@@ -148,51 +141,6 @@ pub struct Surveyed {
     pub first: Option<DeclarationKind>,
 }
 
-fn survey_from(stmts: &[StmtRecord], at: u32, count: u32, seen: Surveyed) -> Surveyed
-    requires { RoomFor count seen.survey }
-    ensures { (es : ExprTable) (ds : DeclTable) (s acc : Row) → Surveys es stmts.now ds at count s acc seen → SurveyedAs result (front count s acc) }
-{
-    if count == 0 || at as usize >= stmts.len() {
-        return seen;
-    }
-    let record = stmts[at as usize];
-    let tests = if record.exprs == NOWHERE { 0 } else { 1 };
-    let survey = surveyed(record.kind, tests, seen.survey);
-    survey_from(
-        stmts,
-        record.next,
-        count - 1,
-        Surveyed {
-            survey,
-            first: kind_declared(record.kind),
-        },
-    )
-}
-
-fn decl_survey_from(decls: &[DeclRecord], at: u32, count: u32, seen: DeclSurvey) -> DeclSurvey
-    requires { (seen.bare ≤ seen.count) × (seen.count + count ≤ nowhere) }
-    ensures { (es : ExprTable) (ss : StmtTable) (s acc : Row) → DeclSurveys es ss decls.now at count s acc seen → result ≡ decl_survey (front count s acc) }
-{
-    if count == 0 || at as usize >= decls.len() {
-        return seen;
-    }
-    let record = decls[at as usize];
-    let bare = if record.value == NOWHERE {
-        seen.bare + 1
-    } else {
-        seen.bare
-    };
-    decl_survey_from(
-        decls,
-        record.next,
-        count - 1,
-        DeclSurvey {
-            count: seen.count + 1,
-            bare,
-        },
-    )
-}
-
 const NOTHING_SEEN: StmtSurvey = StmtSurvey {
     count: 0,
     cases: 0,
@@ -200,19 +148,44 @@ const NOTHING_SEEN: StmtSurvey = StmtSurvey {
     lexicals: 0,
 };
 
-// What the topmost statements are, seen from nothing.
+// What the topmost statements are. A stack is linked records, so there is no slice of them to go over.
 fn survey_top(stmts: &[StmtRecord], top: u32, count: u32) -> Surveyed
     ensures { (es : ExprTable) (ds : DeclTable) (s : Row) → Surveys es stmts.now ds top count s end nothing_seen → SurveyedAs result (front count s end) }
 {
-    survey_from(
-        stmts,
-        top,
-        count,
-        Surveyed {
-            survey: NOTHING_SEEN,
-            first: None,
-        },
-    )
+    let mut seen = Surveyed {
+        survey: NOTHING_SEEN,
+        first: None,
+    };
+    let mut at = top;
+    for _ in 0..count {
+        let Some(record) = stmts.get(at as usize) else {
+            return seen;
+        };
+        let tests = u32::from(record.exprs != NOWHERE);
+        seen = Surveyed {
+            survey: surveyed(record.kind, tests, seen.survey),
+            first: kind_declared(record.kind),
+        };
+        at = record.next;
+    }
+    seen
+}
+
+// What the topmost declarators are.
+fn decl_survey_top(decls: &[DeclRecord], top: u32, count: u32) -> DeclSurvey
+    ensures { (es : ExprTable) (ss : StmtTable) (s : Row) → DeclSurveys es ss decls.now top count s end no_decls_seen → result ≡ decl_survey (front count s end) }
+{
+    let mut seen = DeclSurvey { count: 0, bare: 0 };
+    let mut at = top;
+    for _ in 0..count {
+        let Some(record) = decls.get(at as usize) else {
+            return seen;
+        };
+        seen.count += 1;
+        seen.bare += u32::from(record.value == NOWHERE);
+        at = record.next;
+    }
+    seen
 }
 
 // Whether the parts of a statement may stand where it puts them.
@@ -226,12 +199,7 @@ fn fitting(
     ensures { FitsAs result kind parts draft.now stmts.now decls.now }
 {
     let inner = survey_top(stmts, draft.stmts.top, parts.stmts);
-    let names = decl_survey_from(
-        decls,
-        draft.decls.top,
-        parts.decls,
-        DeclSurvey { count: 0, bare: 0 },
-    );
+    let names = decl_survey_top(decls, draft.decls.top, parts.decls);
     fits_stmt(kind, parts.exprs, inner.survey, names, inner.first)
 }
 
@@ -262,8 +230,7 @@ pub fn put_stmt(
 fn has_case(stmts: &[StmtRecord], top: u32, count: u32) -> bool
     ensures { (es : ExprTable) (ds : DeclTable) (s : Row) → Surveys es stmts.now ds top count s end nothing_seen → HasCase result (survey (front count s end)).cases }
 {
-    let inner = survey_top(stmts, top, count);
-    inner.survey.cases != 0
+    survey_top(stmts, top, count).survey.cases != 0
 }
 
 fn alone(draft: &Draft, count: u32) -> bool

@@ -1,4 +1,5 @@
 // Judging: bytes are judged one after another, and the tables hold what was taken.
+// The tables come as slices, as what is made is put into them.
 ghost use Rattle.std.specs.Prelude.{◌≡◌, length};
 ghost use Rattle.script.specs.Judge.{Model, judge, judge_all, settled};
 ghost use Rattle.script.specs.Stacks.{perform};
@@ -8,14 +9,14 @@ ghost use Rattle.records.specs.Readable.{tables};
 ghost use Rattle.records.specs.Holds.{Holds, Reads};
 ghost use Rattle.reading.specs.Judged.{Judged, Stepped, FedAs};
 
-use crate::build::{Parts, put_body, put_declarator, put_expr, put_stmt};
+use crate::build::{put_body, put_declarator, put_expr, put_stmt};
 use crate::making::{Making, made_by};
 use crate::reader::{Step, read_byte};
 use faults::ReadFault;
 use records::{DeclRecord, Draft, ExprRecord, Stage, StmtRecord};
 use script::Command;
 
-// How many bytes were taken, and why no more.
+// How many bytes were taken, and why no more. The count is told beside a fault too.
 #[derive(Clone, Copy)]
 pub struct Taken {
     pub count: usize,
@@ -37,23 +38,7 @@ fn perform(
     match made_by(command) {
         Making::Expr { kind, parts } => put_expr(draft, exprs, kind, parts),
         Making::Decl { name, parts } => put_declarator(draft, exprs, decls, name, parts),
-        Making::Stmt {
-            kind,
-            exprs: n,
-            stmts: m,
-            decls: d,
-        } => put_stmt(
-            draft,
-            exprs,
-            stmts,
-            decls,
-            kind,
-            Parts {
-                exprs: n,
-                stmts: m,
-                decls: d,
-            },
-        ),
+        Making::Stmt { kind, parts } => put_stmt(draft, exprs, stmts, decls, kind, parts),
         Making::Body { count } => put_body(draft, stmts, count),
     }
 }
@@ -94,13 +79,12 @@ pub fn feed_bytes(
     requires limited { Limited (tables exprs.old stmts.old decls.old) }
     ensures { (m : Model) → Holds (tables exprs.old stmts.old decls.old) draft.old m → FedAs result (length bytes.now) (judge_all bytes.now m) (tables exprs.new stmts.new decls.new) draft.new }
 {
-    for i in 0..bytes.len() {
-        match feed_byte(draft, exprs, stmts, decls, bytes[i]) {
-            Ok(()) => {}
-            Err(fault) => return Taken {
+    for (i, byte) in bytes.iter().enumerate() {
+        if let Err(fault) = feed_byte(draft, exprs, stmts, decls, *byte) {
+            return Taken {
                 count: i,
                 answer: Err(fault),
-            },
+            };
         }
     }
     Taken {

@@ -7,3 +7,4 @@ mod making;
 mod reader;
 
 pub use judging::{Taken, feed_bytes};
+pub use reader::{Step, read_byte};

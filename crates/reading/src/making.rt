@@ -1,29 +1,24 @@
 // What a whole command makes: a record of one table and how many parts it takes off each stack, or the body.
 ghost use Rattle.std.specs.Prelude.{◌≡◌};
-ghost use Rattle.reading.specs.Making.{made_by};
+ghost use Rattle.reading.specs.Making.{made_by, parts_of};
 
 use script::{Command, ExpressionKind, StatementKind};
 use shapes::{head_expressions, init_statements};
 
+// The numbers of parts that a statement takes off the three stacks.
+#[derive(Clone, Copy)]
+pub struct Parts {
+    pub exprs: u32,
+    pub stmts: u32,
+    pub decls: u32,
+}
+
 #[derive(Clone, Copy)]
 pub enum Making {
-    Expr {
-        kind: ExpressionKind,
-        parts: u32,
-    },
-    Decl {
-        name: u8,
-        parts: u32,
-    },
-    Stmt {
-        kind: StatementKind,
-        exprs: u32,
-        stmts: u32,
-        decls: u32,
-    },
-    Body {
-        count: u32,
-    },
+    Expr { kind: ExpressionKind, parts: u32 },
+    Decl { name: u8, parts: u32 },
+    Stmt { kind: StatementKind, parts: Parts },
+    Body { count: u32 },
 }
 
 fn expr(kind: ExpressionKind, parts: u32) -> Making
@@ -33,13 +28,15 @@ fn expr(kind: ExpressionKind, parts: u32) -> Making
 }
 
 fn stmt(kind: StatementKind, exprs: u32, stmts: u32, decls: u32) -> Making
-    ensures { result ≡ Making.Stmt kind exprs stmts decls }
+    ensures { result ≡ Making.Stmt kind (parts_of exprs stmts decls) }
 {
     Making::Stmt {
         kind,
-        exprs,
-        stmts,
-        decls,
+        parts: Parts {
+            exprs,
+            stmts,
+            decls,
+        },
     }
 }
 

@@ -7,3 +7,5 @@ pub mod TurnedOwned
 pub mod Tallies
 pub mod Balance
 pub mod RowLengths
+pub mod Tables
+pub mod Counted

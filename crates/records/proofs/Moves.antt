@@ -86,7 +86,8 @@ module _ {h : Heap} {p : Pools} {q : Place} {loose : List Place} {roots : List R
   pub loose_spare : Owns h p (q ∷ loose) roots → spare q h p ≡ 0
   loose_spare o = let a = o.once q o.inside.0 in let z = same_self q in omega arith
 
-  pub write : {h' : Heap} → Off q h h' → Short h' → Chains h' p → ((k : Place) → spare k h' p ≡ spare k h p) → Owns h p (q ∷ loose) roots → Owns h' p (q ∷ loose) roots
+  pub write : {h' : Heap} → Off q h h' → Short h' → Chains h' p → ((k : Place) → spare k h' p ≡ spare k h p)
+      → Owns h p (q ∷ loose) roots → Owns h' p (q ∷ loose) roots
   write off short ch sp o = record {
     short = short;
     inside = inside_off off (q ∷ loose) o.inside;
@@ -96,7 +97,8 @@ module _ {h : Heap} {p : Pools} {q : Place} {loose : List Place} {roots : List R
   }
 
 module _ {h : Heap} {p : Pools} {loose : List Place} {rest : List Root} where
-  pub opened : {k : Place} {l : Label} {x y z w : Row} → Owns h p loose ((k, node l x y z w) ∷ rest) → Owns h p (k ∷ loose) (((cell h k).exprs, x) ∷ ((cell h k).stmts, y) ∷ ((cell h k).decls, z) ∷ ((cell h k).next, w) ∷ rest)
+  pub opened : {k : Place} {l : Label} {x y z w : Row} → Owns h p loose ((k, node l x y z w) ∷ rest)
+      → Owns h p (k ∷ loose) (((cell h k).exprs, x) ∷ ((cell h k).stmts, y) ∷ ((cell h k).decls, z) ∷ ((cell h k).next, w) ∷ rest)
   opened {k} {l} {x} {y} {z} {w} o = record {
     short = o.short;
     inside = (o.held.0.0, o.inside);
@@ -105,7 +107,8 @@ module _ {h : Heap} {p : Pools} {loose : List Place} {rest : List Root} where
     once = λ q v. let n = o.once q v in omega arith;
   }
 
-  pub closed : {k ka kb kc kn : Place} {l : Label} {x y z w : Row} → cell h k ≡ record { label = l; exprs = ka; stmts = kb; decls = kc; next = kn } → Owns h p (k ∷ loose) ((ka, x) ∷ (kb, y) ∷ (kc, z) ∷ (kn, w) ∷ rest) → Owns h p loose ((k, node l x y z w) ∷ rest)
+  pub closed : {k ka kb kc kn : Place} {l : Label} {x y z w : Row} → cell h k ≡ record { label = l; exprs = ka; stmts = kb; decls = kc; next = kn }
+      → Owns h p (k ∷ loose) ((ka, x) ∷ (kb, y) ∷ (kc, z) ∷ (kn, w) ∷ rest) → Owns h p loose ((k, node l x y z w) ∷ rest)
   closed {k} {ka} {kb} {kc} {kn} {l} {x} {y} {z} {w} r o =
       let r' = sym r in
       record {
@@ -167,4 +170,5 @@ uses_bring k h (suc n) [] = refl
 uses_bring k h (suc n) (r ∷ rs) = uses_behind k h r (bring n rs) ∙ ap (λ u. uses k h r.0 r.1 + u) (uses_bring k h n rs)
 
 pub pick : {h : Heap} {p : Pools} {loose : List Place} {roots : List Root} (n : ℕ) → Owns h p loose roots → Owns h p loose (bring n roots)
-pick {h} {p} {loose} {roots} n o = record { short = o.short; inside = o.inside; held = held_bring h n roots o.held; chains = o.chains; once = λ k v. rw uses_bring (o.once k v) }
+pick {h} {p} {loose} {roots} n o =
+    record { short = o.short; inside = o.inside; held = held_bring h n roots o.held; chains = o.chains; once = λ k v. rw uses_bring (o.once k v) }

@@ -1,6 +1,7 @@
 -- A tree is one record in its row, with its parts below it.
 use Rattle.std.proofs.Common.{◌≡◌, suc, refl}
-use Rattle.script.specs.Tree.{Expr, Stmt, assignment, block, break, call, conditional, continue, declaration, do_while, empty, expression, for, if_then, logical, name, not, number, return_of, sequence, strict_equality, switch, throw, void, while, word}
+use Rattle.script.specs.Tree.{Expr, assignment, call, conditional, logical, name, not, number, sequence, strict_equality, void, word}
+use Rattle.script.specs.Tree.{Stmt, block, break, continue, declaration, do_while, empty, expression, for, if_then, return_of, switch, throw, while}
 use Rattle.records.specs.Embedding.{expr_row, stmt_row}
 use Rattle.records.specs.Rows.{Row, row_length}
 

@@ -1,5 +1,6 @@
--- Writing one record of a table, and taking one from its pool.
-use Rattle.std.proofs.Common.{◌≡◌, ℕ, ◌+◌, List, ◌∷◌, set, refl, ap, ◌∙◌, arith, length-set, get_or-set_other, get_or-set_same}
+-- Single records of a table, whichever it is: one written, one taken from its pool, one given back.
+use Rattle.std.proofs.Common.{◌≡◌, ℕ, ◌+◌, ◌<◌, List, ◌∷◌, length, set, get_or, sym, refl, ap, ◌∙◌, subst, ⊎_elim, add-one}
+use Rattle.std.proofs.Common.{arith, length-set, get_or-set_other, get_or-set_same}
 use lib.ListN.{length-map}
 use lib.Seq.{map-set}
 use Rattle.pool.specs.Chain.{nowhere, same_place, occurrences, Chain, places}
@@ -9,191 +10,217 @@ use Rattle.records.specs.declared.record.Pools.{Pools}
 use Rattle.records.specs.declared.record.ExprRecord.{ExprRecord}
 use Rattle.records.specs.declared.record.StmtRecord.{StmtRecord}
 use Rattle.records.specs.declared.record.DeclRecord.{DeclRecord}
-use Rattle.records.specs.Heap.{Heap, Place, expr_at, stmt_at, decl_at, Label, cell, expr_cell, stmt_cell, decl_cell, Within, same}
-use Rattle.records.specs.Heap.{expr_links, stmt_links, decl_links, spare, blank_expr, blank_stmt, blank_decl}
+use Rattle.records.specs.Heap.{Cell, Heap, Place, expr_at, stmt_at, decl_at, Label, cell, expr_cell, stmt_cell, decl_cell, Within, same}
+use Rattle.records.specs.Heap.{expr_links, stmt_links, decl_links, spare}
 use Rattle.records.specs.Rows.{Row, end, node}
 use Rattle.records.specs.Owned.{Root, uses_all, loose_at, Owns}
-use Rattle.records.proofs.Moves.{Off, write, closed, loose_spare, end_in, pick}
+use Rattle.records.specs.Readable.{tables}
+use Rattle.records.specs.TableOf.{Elsewhere, TableOf, Tabled}
+use Rattle.records.proofs.Counting.{links_of, next_there, there}
+use Rattle.records.proofs.Moves.{Off, write, opened, closed, loose_spare, end_in, pick}
+use Rattle.records.proofs.Sizes.{total_add, total_le, total_same}
+use Rattle.records.proofs.Tables.{decls_tabled, exprs_tabled, stmts_tabled}
+use Rattle.records.proofs.Tallies.{total_places}
+
+module _ {R : Type 0} {t : TableOf R} {link : R → ℕ} {relinked : R → ℕ → R} (tabled : Tabled R t link relinked) where
+  -- a fact of each place: of those in the table, and of those elsewhere
+  at_each : (P : Place → Type 0) → ((j : ℕ) → P (t.place j)) → ((k : Place) → Elsewhere t k → P k) → (k : Place) → P k
+  at_each P here other k = ⊎_elim (λ e. subst P (sym e.1) (here e.0)) (λ e. other k e) (tabled.each k)
+
+  -- the heap with one record of the table written
+  abbrev pub written : Heap → ℕ → R → Heap
+  written h i x = t.with_table h (set (t.table h) i x)
+
+  length_written : (h : Heap) (i : ℕ) (x : R) → length (t.table (written h i x)) ≡ length (t.table h)
+  length_written h i x = rw tabled.table_with (length-set (t.table h) i x)
+
+  pub links_written : (h : Heap) (i : ℕ) (x : R) → links_of tabled (written h i x) ≡ set (links_of tabled h) i (link x)
+  links_written h i x = rw tabled.table_with (map-set link (t.table h) i x)
+
+  pub cell_written : (h : Heap) (i : ℕ) (x : R) → i < length (t.table h) → cell (written h i x) (t.place i) ≡ t.cell_of x
+  cell_written h i x v =
+      tabled.cells (written h i x) i
+      ∙ ap (λ xs. t.cell_of (get_or xs i t.blank)) (tabled.table_with h (set (t.table h) i x))
+      ∙ ap t.cell_of (get_or-set_same (t.table h) i x t.blank v)
+
+  pub off : (h : Heap) (i : ℕ) (x : R) → Off (t.place i) h (written h i x)
+  off h i x = record {
+    cells = at_each (λ k. same (t.place i) k ≡ 0 → cell (written h i x) k ≡ cell h k) cells (λ k e z. e.cells h (set (t.table h) i x));
+    within = at_each (λ k. Within h k → Within (written h i x) k)
+        (λ j v. let w = tabled.within_out h j v in let l = length_written h i x in tabled.within_in (written h i x) j (omega arith))
+        (λ k e v. e.within_in h (set (t.table h) i x) v);
+    back = at_each (λ k. Within (written h i x) k → Within h k)
+        (λ j v. let w = tabled.within_out (written h i x) j v in let l = length_written h i x in tabled.within_in h j (omega arith))
+        (λ k e v. e.within_out h (set (t.table h) i x) v);
+  }
+    where
+      cells : (j : ℕ) → same (t.place i) (t.place j) ≡ 0 → cell (written h i x) (t.place j) ≡ cell h (t.place j)
+      cells j z =
+          tabled.cells (written h i x) j
+          ∙ ap (λ xs. t.cell_of (get_or xs j t.blank)) (tabled.table_with h (set (t.table h) i x))
+          ∙ ap t.cell_of (get_or-set_other (t.table h) i j x t.blank (other_place i j (sym (tabled.sames i j) ∙ z)))
+          ∙ sym (tabled.cells h j)
+
+  pub write_loose : {h : Heap} {p : Pools} {loose : List Place} {roots : List Root} (i : ℕ) (x : R)
+      → Owns h p (t.place i ∷ loose) roots → Owns (written h i x) p (t.place i ∷ loose) roots
+  write_loose {h} {p} i x o =
+      let links = links_of tabled h in
+      let head = (t.pool p).head in
+      let count = (t.pool p).count in
+      let z : occurrences i (places links head count) ≡ 0 = sym (tabled.spares h p i) ∙ loose_spare o in
+      let l : length (set (t.table h) i x) ≡ length (t.table h) = length-set (t.table h) i x in
+      let s = tabled.short h o.short in
+      write (off h i x)
+      (tabled.short_with h (set (t.table h) i x) o.short (omega arith))
+      (tabled.chains_table h p (set (t.table h) i x) o.chains
+      (rw (map-set link (t.table h) i x) (chain_set links i (link x) head count (tabled.chain h p o.chains) z)))
+      (at_each (λ k. spare k (written h i x) p ≡ spare k h p)
+      (λ j. tabled.spares (written h i x) p j
+      ∙ ap (λ (ls : List ℕ). occurrences j (places ls head count)) (links_written h i x)
+      ∙ ap (occurrences j) (places_set links i (link x) head count z)
+      ∙ sym (tabled.spares h p j))
+      (λ k e. e.spares_table h (set (t.table h) i x) p))
+      o
+
+  -- a loose record is written, and owns its parts and what follows it
+  pub put : {h : Heap} {p : Pools} {loose : List Place} {rest : List Root} {l : Label} {x y z w : Row} (i : ℕ) (r : R) → (t.cell_of r).label ≡ l
+      → Owns h p (t.place i ∷ loose) (((t.cell_of r).exprs, x) ∷ ((t.cell_of r).stmts, y) ∷ ((t.cell_of r).decls, z) ∷ ((t.cell_of r).next, w) ∷ rest)
+      → Owns (written h i r) p loose ((t.place i, node l x y z w) ∷ rest)
+  put {h} i r e o =
+      closed (cell_written h i r (tabled.within_out h i o.inside.0)
+      ∙ (λ k. record { label = e k; exprs = (t.cell_of r).exprs; stmts = (t.cell_of r).stmts; decls = (t.cell_of r).decls; next = (t.cell_of r).next }))
+      (write_loose i r o)
+
+  -- the first record of a row goes in front of another
+  pub relink_first : {h : Heap} {p : Pools} {loose : List Place} {rest : List Root} (i b : ℕ) {l : Label} {x y z w v : Row}
+      → Owns h p loose ((t.place i, node l x y z w) ∷ (t.place b, v) ∷ rest)
+      → Owns (written h i (relinked (there tabled h i) b)) p loose ((t.place (link (there tabled h i)), w) ∷ (t.place i, node l x y z v) ∷ rest)
+  relink_first {h} {p} {loose} {rest} i b {l} {x} {y} {z} {w} {v} o =
+      let r = there tabled h i in
+      let n = relinked r b in
+      let told : cell (written h i n) (t.place i) ≡ record {
+        label = l;
+        exprs = (cell h (t.place i)).exprs;
+        stmts = (cell h (t.place i)).stmts;
+        decls = (cell h (t.place i)).decls;
+        next = t.place b;
+      } =
+      cell_written h i n (tabled.within_out h i o.held.0.0)
+      ∙ tabled.relinks r b
+      ∙ ap (λ (c : Cell). record { label = c.label; exprs = c.exprs; stmts = c.stmts; decls = c.decls; next = t.place b }) (sym (tabled.cells h i))
+      ∙ (λ k. record {
+        label = o.held.0.1 k;
+        exprs = (cell h (t.place i)).exprs;
+        stmts = (cell h (t.place i)).stmts;
+        decls = (cell h (t.place i)).decls;
+        next = t.place b;
+      }) in
+      subst (λ (k : Place). Owns (written h i n) p loose ((k, w) ∷ (t.place i, node l x y z v) ∷ rest)) (next_there tabled h i)
+      (pick 1 (closed told (pick 3 (pick 3 (pick 3 (pick 4 (write_loose i n (opened o))))))))
+
+  spares_with : (h : Heap) (p : Pools) (q : Pool) (j : ℕ) → spare (t.place j) h (t.with_pool p q) ≡ occurrences j (places (links_of tabled h) q.head q.count)
+  spares_with h p q j =
+      tabled.spares h (t.with_pool p q) j ∙ ap (λ (r : Pool). occurrences j (places (links_of tabled h) r.head r.count)) (tabled.pool_with p q)
+
+  -- the first spare becomes a loose place
+  pub take : {h : Heap} {p : Pools} {loose : List Place} {rest : List Root} (q : Pool) (i : ℕ)
+      → places (links_of tabled h) (t.pool p).head (t.pool p).count ≡ i ∷ places (links_of tabled h) q.head q.count
+      → Chain (links_of tabled h) q.head q.count → Owns h p loose rest → Owns h (t.with_pool p q) (t.place i ∷ loose) rest
+  take {h} {p} {loose} {rest} q i e ch o =
+      let links = links_of tabled h in
+      let v = chain_within links (t.pool p).head (t.pool p).count i (places links q.head q.count) (tabled.chain h p o.chains) e in
+      record {
+        short = o.short;
+        inside = (tabled.within_in h i (omega (arith, length-map (t.table h) link)), o.inside);
+        held = o.held;
+        chains = tabled.chains_pool h p q o.chains ch;
+        once = at_each (λ k. Within h k → loose_at k (t.place i ∷ loose) + (uses_all k h rest + spare k h (t.with_pool p q)) ≡ 1)
+            (λ j w.
+            let n = o.once (t.place j) w in
+            let a = tabled.spares h p j in
+            let b = spares_with h p q j in
+            let c = ap (occurrences j) e in
+            let d = tabled.sames j i in
+            omega arith)
+            (λ k f w. let n = o.once k w in let a = f.apart i in let b = f.spares_pool h p q in omega arith);
+      }
+
+  -- a loose record whose link is the first spare becomes the first spare
+  pub give : {h : Heap} {p : Pools} {loose : List Place} {roots : List Root} (i : ℕ) → get_or (links_of tabled h) i 0 ≡ (t.pool p).head
+      → Owns h p (t.place i ∷ loose) roots → Owns h (t.with_pool p (record { head = i; count = (t.pool p).count + 1 })) loose roots
+  give {h} {p} {loose} {roots} i e o =
+      let links = links_of tabled h in
+      let q : Pool = record { head = i; count = (t.pool p).count + 1 } in
+      let v = tabled.within_out h i o.inside.0 in
+      let c : Chain links i ((t.pool p).count + 1) = rw add-one (omega (arith, length-map (t.table h) link), rw e (tabled.chain h p o.chains)) in
+      record {
+        short = o.short;
+        inside = o.inside.1;
+        held = o.held;
+        chains = tabled.chains_pool h p q o.chains c;
+        once = at_each (λ k. Within h k → loose_at k loose + (uses_all k h roots + spare k h (t.with_pool p q)) ≡ 1)
+            (λ j w.
+            let n = o.once (t.place j) w in
+            let a = tabled.spares h p j in
+            let b = spares_with h p q j in
+            let c : occurrences j (places links i ((t.pool p).count + 1)) ≡ same_place j i + occurrences j (places links (t.pool p).head (t.pool p).count) =
+            rw add-one (rw e refl) in
+            let d = tabled.sames j i in
+            omega arith)
+            (λ k f w. let n = o.once k w in let a = f.apart i in let b = f.spares_pool h p q in omega arith);
+      }
+
+  -- a loose place is none of the spares, so that they are fewer than the records
+  pub spares_fewer : {h : Heap} {p : Pools} {loose : List Place} {roots : List Root} (i : ℕ) → Owns h p (t.place i ∷ loose) roots
+      → (t.pool p).count < length (t.table h)
+  spares_fewer {h} {p} {loose} i o =
+      let n = length (t.table h) in
+      let of : ℕ → ℕ = λ j. occurrences j (places (links_of tabled h) (t.pool p).head (t.pool p).count) in
+      let a = total_add n (λ j. same_place j i) of in
+      let b = total_same n i (tabled.within_out h i o.inside.0) in
+      let c = total_places (links_of tabled h) (t.pool p).head (t.pool p).count n (sym (length-map (t.table h) link)) (tabled.chain h p o.chains) in
+      let d = total_le n (λ j. same_place j i + of j) (λ j v.
+      let u = o.once (t.place j) (tabled.within_in h j v) in let s = tabled.spares h p j in let k = tabled.sames j i in omega arith) in
+      omega arith
+
+-- a record of two rows has none of the others
+no_others : {h : Heap} {p : Pools} {loose : List Place} {rest : List Root} {a b : Root} → Owns h p loose (a ∷ b ∷ rest)
+    → Owns h p loose (a ∷ (stmt_at nowhere, end) ∷ (decl_at nowhere, end) ∷ b ∷ rest)
+no_others o = pick 2 (end_in (stmt_at nowhere) refl (end_in (decl_at nowhere) refl o))
 
 -- the table of expressions
-module _ (exprs : List ExprRecord) (stmts : List StmtRecord) (decls : List DeclRecord) (i : ℕ) (y : ExprRecord) where
-  abbrev before_expr : Heap
-  before_expr = record { exprs = exprs; stmts = stmts; decls = decls }
+pub relink_expr : (exprs : List ExprRecord) (stmts : List StmtRecord) (decls : List DeclRecord) (i : ℕ) (y : ExprRecord)
+    {p : Pools} {loose : List Place} {rest : List Root} {l : Label} {x w : Row} → (expr_cell y).label ≡ l
+    → Owns (tables exprs stmts decls) p (expr_at i ∷ loose) ((expr_at y.first, x) ∷ (expr_at y.next, w) ∷ rest)
+    → Owns (tables (set exprs i y) stmts decls) p loose ((expr_at i, node l x end end w) ∷ rest)
+relink_expr exprs stmts decls i y r o = put exprs_tabled i y r (no_others o)
 
-  abbrev after_expr : Heap
-  after_expr = record { exprs = set exprs i y; stmts = stmts; decls = decls }
-
-  pub off_expr : Off (expr_at i) before_expr after_expr
-  off_expr = record { cells = cells; within = within; back = back }
-    where
-      cells : (k : Place) → same (expr_at i) k ≡ 0 → cell after_expr k ≡ cell before_expr k
-      cells (expr_at j) z = ap expr_cell (get_or-set_other exprs i j y blank_expr (other_place i j z))
-      cells (stmt_at j) z = refl
-      cells (decl_at j) z = refl
-
-      within : (k : Place) → Within before_expr k → Within after_expr k
-      within (expr_at j) v = rw length-set v
-      within (stmt_at j) v = v
-      within (decl_at j) v = v
-
-      back : (k : Place) → Within after_expr k → Within before_expr k
-      back (expr_at j) v = rw length-set at v
-      back (stmt_at j) v = v
-      back (decl_at j) v = v
-
-  pub write_expr : {p : Pools} {loose : List Place} {roots : List Root} → Owns before_expr p (expr_at i ∷ loose) roots → Owns after_expr p (expr_at i ∷ loose) roots
-  write_expr {p} {loose} {roots} o =
-      let m = map-set (λ (x : ExprRecord). x.next) exprs i y in
-      let z : occurrences i (places (expr_links exprs) p.exprs.head p.exprs.count) ≡ 0 = loose_spare o in
-      let pl : places (expr_links (set exprs i y)) p.exprs.head p.exprs.count ≡ places (expr_links exprs) p.exprs.head p.exprs.count = ap (λ l. places l p.exprs.head p.exprs.count) m ∙ places_set (expr_links exprs) i y.next p.exprs.head p.exprs.count z in
-      write off_expr
-      (record { exprs = rw length-set o.short.exprs; stmts = o.short.stmts; decls = o.short.decls })
-      (record { exprs = rw m (chain_set (expr_links exprs) i y.next p.exprs.head p.exprs.count o.chains.exprs z); stmts = o.chains.stmts; decls = o.chains.decls })
-      (spares p pl)
-      o
-    where
-      spares : (p : Pools) → places (expr_links (set exprs i y)) p.exprs.head p.exprs.count ≡ places (expr_links exprs) p.exprs.head p.exprs.count → (k : Place) → spare k after_expr p ≡ spare k before_expr p
-      spares p pl (expr_at j) = ap (occurrences j) pl
-      spares p pl (stmt_at j) = refl
-      spares p pl (decl_at j) = refl
-
-  pub relink_expr : {p : Pools} {loose : List Place} {rest : List Root} {l : Label} {x w : Row} → (expr_cell y).label ≡ l → Owns before_expr p (expr_at i ∷ loose) ((expr_at y.first, x) ∷ (expr_at y.next, w) ∷ rest) → Owns after_expr p loose ((expr_at i, node l x end end w) ∷ rest)
-  relink_expr r o = closed (ap expr_cell (get_or-set_same exprs i y blank_expr o.inside.0) ∙ ap (λ z. record { label = z; exprs = expr_at y.first; stmts = stmt_at nowhere; decls = decl_at nowhere; next = expr_at y.next }) r) (pick 2 (end_in (stmt_at nowhere) refl (end_in (decl_at nowhere) refl (write_expr o))))
-
--- its first spare becomes a loose place
-pub take_expr : {h : Heap} {p : Pools} {loose : List Place} {rest : List Root} (p' : Pool) (i : ℕ) → places (expr_links h.exprs) p.exprs.head p.exprs.count ≡ i ∷ places (expr_links h.exprs) p'.head p'.count → Chain (expr_links h.exprs) p'.head p'.count → Owns h p loose rest → Owns h (record { exprs = p'; stmts = p.stmts; decls = p.decls }) (expr_at i ∷ loose) rest
-take_expr {h} {p} {loose} {rest} p' i e ch o =
-    record {
-      short = o.short;
-      inside = ((let w = chain_within (expr_links h.exprs) p.exprs.head p.exprs.count i (places (expr_links h.exprs) p'.head p'.count) o.chains.exprs e in omega (arith, length-map h.exprs (λ (x : ExprRecord). x.next))), o.inside);
-      held = o.held;
-      chains = record { exprs = ch; stmts = o.chains.stmts; decls = o.chains.decls };
-      once = onces;
-    }
-  where
-    onces : (q : Place) → Within h q → loose_at q (expr_at i ∷ loose) + (uses_all q h rest + spare q h (record { exprs = p'; stmts = p.stmts; decls = p.decls })) ≡ 1
-    onces (expr_at j) v = let n = o.once (expr_at j) v in let q : occurrences j (places (expr_links h.exprs) p.exprs.head p.exprs.count) ≡ same_place j i + occurrences j (places (expr_links h.exprs) p'.head p'.count) = ap (occurrences j) e in omega arith
-    onces (stmt_at j) v = let n = o.once (stmt_at j) v in omega arith
-    onces (decl_at j) v = let n = o.once (decl_at j) v in omega arith
+pub take_expr : {h : Heap} {p : Pools} {loose : List Place} {rest : List Root} (q : Pool) (i : ℕ)
+    → places (expr_links h.exprs) p.exprs.head p.exprs.count ≡ i ∷ places (expr_links h.exprs) q.head q.count → Chain (expr_links h.exprs) q.head q.count
+    → Owns h p loose rest → Owns h (record { exprs = q; stmts = p.stmts; decls = p.decls }) (expr_at i ∷ loose) rest
+take_expr q i e c o = take exprs_tabled q i e c o
 
 -- the table of statements
-module _ (exprs : List ExprRecord) (stmts : List StmtRecord) (decls : List DeclRecord) (i : ℕ) (y : StmtRecord) where
-  abbrev before_stmt : Heap
-  before_stmt = record { exprs = exprs; stmts = stmts; decls = decls }
+pub relink_stmt : (exprs : List ExprRecord) (stmts : List StmtRecord) (decls : List DeclRecord) (i : ℕ) (y : StmtRecord)
+    {p : Pools} {loose : List Place} {rest : List Root} {l : Label} {x x' x'' w : Row} → (stmt_cell y).label ≡ l
+    → Owns (tables exprs stmts decls) p (stmt_at i ∷ loose)
+    ((expr_at y.exprs, x) ∷ (stmt_at y.stmts, x') ∷ (decl_at y.decls, x'') ∷ (stmt_at y.next, w) ∷ rest)
+    → Owns (tables exprs (set stmts i y) decls) p loose ((stmt_at i, node l x x' x'' w) ∷ rest)
+relink_stmt exprs stmts decls i y r o = put stmts_tabled i y r o
 
-  abbrev after_stmt : Heap
-  after_stmt = record { exprs = exprs; stmts = set stmts i y; decls = decls }
-
-  pub off_stmt : Off (stmt_at i) before_stmt after_stmt
-  off_stmt = record { cells = cells; within = within; back = back }
-    where
-      cells : (k : Place) → same (stmt_at i) k ≡ 0 → cell after_stmt k ≡ cell before_stmt k
-      cells (expr_at j) z = refl
-      cells (stmt_at j) z = ap stmt_cell (get_or-set_other stmts i j y blank_stmt (other_place i j z))
-      cells (decl_at j) z = refl
-
-      within : (k : Place) → Within before_stmt k → Within after_stmt k
-      within (expr_at j) v = v
-      within (stmt_at j) v = rw length-set v
-      within (decl_at j) v = v
-
-      back : (k : Place) → Within after_stmt k → Within before_stmt k
-      back (expr_at j) v = v
-      back (stmt_at j) v = rw length-set at v
-      back (decl_at j) v = v
-
-  pub write_stmt : {p : Pools} {loose : List Place} {roots : List Root} → Owns before_stmt p (stmt_at i ∷ loose) roots → Owns after_stmt p (stmt_at i ∷ loose) roots
-  write_stmt {p} {loose} {roots} o =
-      let m = map-set (λ (x : StmtRecord). x.next) stmts i y in
-      let z : occurrences i (places (stmt_links stmts) p.stmts.head p.stmts.count) ≡ 0 = loose_spare o in
-      let pl : places (stmt_links (set stmts i y)) p.stmts.head p.stmts.count ≡ places (stmt_links stmts) p.stmts.head p.stmts.count = ap (λ l. places l p.stmts.head p.stmts.count) m ∙ places_set (stmt_links stmts) i y.next p.stmts.head p.stmts.count z in
-      write off_stmt
-      (record { exprs = o.short.exprs; stmts = rw length-set o.short.stmts; decls = o.short.decls })
-      (record { exprs = o.chains.exprs; stmts = rw m (chain_set (stmt_links stmts) i y.next p.stmts.head p.stmts.count o.chains.stmts z); decls = o.chains.decls })
-      (spares p pl)
-      o
-    where
-      spares : (p : Pools) → places (stmt_links (set stmts i y)) p.stmts.head p.stmts.count ≡ places (stmt_links stmts) p.stmts.head p.stmts.count → (k : Place) → spare k after_stmt p ≡ spare k before_stmt p
-      spares p pl (expr_at j) = refl
-      spares p pl (stmt_at j) = ap (occurrences j) pl
-      spares p pl (decl_at j) = refl
-
-  pub relink_stmt : {p : Pools} {loose : List Place} {rest : List Root} {l : Label} {x x' x'' w : Row} → (stmt_cell y).label ≡ l → Owns before_stmt p (stmt_at i ∷ loose) ((expr_at y.exprs, x) ∷ (stmt_at y.stmts, x') ∷ (decl_at y.decls, x'') ∷ (stmt_at y.next, w) ∷ rest) → Owns after_stmt p loose ((stmt_at i, node l x x' x'' w) ∷ rest)
-  relink_stmt r o = closed (ap stmt_cell (get_or-set_same stmts i y blank_stmt o.inside.0) ∙ ap (λ z. record { label = z; exprs = expr_at y.exprs; stmts = stmt_at y.stmts; decls = decl_at y.decls; next = stmt_at y.next }) r) (write_stmt o)
-
--- its first spare becomes a loose place
-pub take_stmt : {h : Heap} {p : Pools} {loose : List Place} {rest : List Root} (p' : Pool) (i : ℕ) → places (stmt_links h.stmts) p.stmts.head p.stmts.count ≡ i ∷ places (stmt_links h.stmts) p'.head p'.count → Chain (stmt_links h.stmts) p'.head p'.count → Owns h p loose rest → Owns h (record { exprs = p.exprs; stmts = p'; decls = p.decls }) (stmt_at i ∷ loose) rest
-take_stmt {h} {p} {loose} {rest} p' i e ch o =
-    record {
-      short = o.short;
-      inside = ((let w = chain_within (stmt_links h.stmts) p.stmts.head p.stmts.count i (places (stmt_links h.stmts) p'.head p'.count) o.chains.stmts e in omega (arith, length-map h.stmts (λ (x : StmtRecord). x.next))), o.inside);
-      held = o.held;
-      chains = record { exprs = o.chains.exprs; stmts = ch; decls = o.chains.decls };
-      once = onces;
-    }
-  where
-    onces : (q : Place) → Within h q → loose_at q (stmt_at i ∷ loose) + (uses_all q h rest + spare q h (record { exprs = p.exprs; stmts = p'; decls = p.decls })) ≡ 1
-    onces (expr_at j) v = let n = o.once (expr_at j) v in omega arith
-    onces (stmt_at j) v = let n = o.once (stmt_at j) v in let q : occurrences j (places (stmt_links h.stmts) p.stmts.head p.stmts.count) ≡ same_place j i + occurrences j (places (stmt_links h.stmts) p'.head p'.count) = ap (occurrences j) e in omega arith
-    onces (decl_at j) v = let n = o.once (decl_at j) v in omega arith
+pub take_stmt : {h : Heap} {p : Pools} {loose : List Place} {rest : List Root} (q : Pool) (i : ℕ)
+    → places (stmt_links h.stmts) p.stmts.head p.stmts.count ≡ i ∷ places (stmt_links h.stmts) q.head q.count → Chain (stmt_links h.stmts) q.head q.count
+    → Owns h p loose rest → Owns h (record { exprs = p.exprs; stmts = q; decls = p.decls }) (stmt_at i ∷ loose) rest
+take_stmt q i e c o = take stmts_tabled q i e c o
 
 -- the table of declarators
-module _ (exprs : List ExprRecord) (stmts : List StmtRecord) (decls : List DeclRecord) (i : ℕ) (y : DeclRecord) where
-  abbrev before_decl : Heap
-  before_decl = record { exprs = exprs; stmts = stmts; decls = decls }
+pub relink_decl : (exprs : List ExprRecord) (stmts : List StmtRecord) (decls : List DeclRecord) (i : ℕ) (y : DeclRecord)
+    {p : Pools} {loose : List Place} {rest : List Root} {l : Label} {x w : Row} → (decl_cell y).label ≡ l
+    → Owns (tables exprs stmts decls) p (decl_at i ∷ loose) ((expr_at y.value, x) ∷ (decl_at y.next, w) ∷ rest)
+    → Owns (tables exprs stmts (set decls i y)) p loose ((decl_at i, node l x end end w) ∷ rest)
+relink_decl exprs stmts decls i y r o = put decls_tabled i y r (no_others o)
 
-  abbrev after_decl : Heap
-  after_decl = record { exprs = exprs; stmts = stmts; decls = set decls i y }
-
-  pub off_decl : Off (decl_at i) before_decl after_decl
-  off_decl = record { cells = cells; within = within; back = back }
-    where
-      cells : (k : Place) → same (decl_at i) k ≡ 0 → cell after_decl k ≡ cell before_decl k
-      cells (expr_at j) z = refl
-      cells (stmt_at j) z = refl
-      cells (decl_at j) z = ap decl_cell (get_or-set_other decls i j y blank_decl (other_place i j z))
-
-      within : (k : Place) → Within before_decl k → Within after_decl k
-      within (expr_at j) v = v
-      within (stmt_at j) v = v
-      within (decl_at j) v = rw length-set v
-
-      back : (k : Place) → Within after_decl k → Within before_decl k
-      back (expr_at j) v = v
-      back (stmt_at j) v = v
-      back (decl_at j) v = rw length-set at v
-
-  pub write_decl : {p : Pools} {loose : List Place} {roots : List Root} → Owns before_decl p (decl_at i ∷ loose) roots → Owns after_decl p (decl_at i ∷ loose) roots
-  write_decl {p} {loose} {roots} o =
-      let m = map-set (λ (x : DeclRecord). x.next) decls i y in
-      let z : occurrences i (places (decl_links decls) p.decls.head p.decls.count) ≡ 0 = loose_spare o in
-      let pl : places (decl_links (set decls i y)) p.decls.head p.decls.count ≡ places (decl_links decls) p.decls.head p.decls.count = ap (λ l. places l p.decls.head p.decls.count) m ∙ places_set (decl_links decls) i y.next p.decls.head p.decls.count z in
-      write off_decl
-      (record { exprs = o.short.exprs; stmts = o.short.stmts; decls = rw length-set o.short.decls })
-      (record { exprs = o.chains.exprs; stmts = o.chains.stmts; decls = rw m (chain_set (decl_links decls) i y.next p.decls.head p.decls.count o.chains.decls z) })
-      (spares p pl)
-      o
-    where
-      spares : (p : Pools) → places (decl_links (set decls i y)) p.decls.head p.decls.count ≡ places (decl_links decls) p.decls.head p.decls.count → (k : Place) → spare k after_decl p ≡ spare k before_decl p
-      spares p pl (expr_at j) = refl
-      spares p pl (stmt_at j) = refl
-      spares p pl (decl_at j) = ap (occurrences j) pl
-
-  pub relink_decl : {p : Pools} {loose : List Place} {rest : List Root} {l : Label} {x w : Row} → (decl_cell y).label ≡ l → Owns before_decl p (decl_at i ∷ loose) ((expr_at y.value, x) ∷ (decl_at y.next, w) ∷ rest) → Owns after_decl p loose ((decl_at i, node l x end end w) ∷ rest)
-  relink_decl r o = closed (ap decl_cell (get_or-set_same decls i y blank_decl o.inside.0) ∙ ap (λ z. record { label = z; exprs = expr_at y.value; stmts = stmt_at nowhere; decls = decl_at nowhere; next = decl_at y.next }) r) (pick 2 (end_in (stmt_at nowhere) refl (end_in (decl_at nowhere) refl (write_decl o))))
-
--- its first spare becomes a loose place
-pub take_decl : {h : Heap} {p : Pools} {loose : List Place} {rest : List Root} (p' : Pool) (i : ℕ) → places (decl_links h.decls) p.decls.head p.decls.count ≡ i ∷ places (decl_links h.decls) p'.head p'.count → Chain (decl_links h.decls) p'.head p'.count → Owns h p loose rest → Owns h (record { exprs = p.exprs; stmts = p.stmts; decls = p' }) (decl_at i ∷ loose) rest
-take_decl {h} {p} {loose} {rest} p' i e ch o =
-    record {
-      short = o.short;
-      inside = ((let w = chain_within (decl_links h.decls) p.decls.head p.decls.count i (places (decl_links h.decls) p'.head p'.count) o.chains.decls e in omega (arith, length-map h.decls (λ (x : DeclRecord). x.next))), o.inside);
-      held = o.held;
-      chains = record { exprs = o.chains.exprs; stmts = o.chains.stmts; decls = ch };
-      once = onces;
-    }
-  where
-    onces : (q : Place) → Within h q → loose_at q (decl_at i ∷ loose) + (uses_all q h rest + spare q h (record { exprs = p.exprs; stmts = p.stmts; decls = p' })) ≡ 1
-    onces (expr_at j) v = let n = o.once (expr_at j) v in omega arith
-    onces (stmt_at j) v = let n = o.once (stmt_at j) v in omega arith
-    onces (decl_at j) v = let n = o.once (decl_at j) v in let q : occurrences j (places (decl_links h.decls) p.decls.head p.decls.count) ≡ same_place j i + occurrences j (places (decl_links h.decls) p'.head p'.count) = ap (occurrences j) e in omega arith
+pub take_decl : {h : Heap} {p : Pools} {loose : List Place} {rest : List Root} (q : Pool) (i : ℕ)
+    → places (decl_links h.decls) p.decls.head p.decls.count ≡ i ∷ places (decl_links h.decls) q.head q.count → Chain (decl_links h.decls) q.head q.count
+    → Owns h p loose rest → Owns h (record { exprs = p.exprs; stmts = p.stmts; decls = q }) (decl_at i ∷ loose) rest
+take_decl q i e c o = take decls_tabled q i e c o

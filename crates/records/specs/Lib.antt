@@ -6,3 +6,5 @@ pub mod Readable
 pub mod Embedding
 pub mod Turning
 pub mod Holds
+pub mod Lent
+pub mod TableOf

@@ -2,8 +2,10 @@
 // What it means that tables hold trees stands in specs/: rows, who owns a record, and what a sheet holds.
 #![tactic(auto)]
 
+mod lent;
 mod record;
 mod turning;
 
+pub use lent::Lent;
 pub use record::{DeclRecord, Draft, ExprRecord, Pools, Stack, Stage, StmtRecord, Whole};
 pub use turning::{TurnedRow, turn};

@@ -1,9 +1,10 @@
 // The records of the three tables, and the sheet's own numbers.
 ghost use Rattle.std.specs.Prelude.{◌≡◌};
 ghost use Rattle.std.proofs.Common.{rules};
+ghost use Rattle.script.specs.declared.Table.TheVariants.{Declarators, Expressions, Statements};
 
 use pool::{Linked, Pool};
-use script::{Awaiting, ExpressionKind, StatementKind};
+use script::{Awaiting, ExpressionKind, StatementKind, Table};
 
 // An expression: its parts are a row that begins at `first`.
 #[derive(Clone, Copy)]
@@ -48,6 +49,7 @@ pub struct Stack {
 }
 
 // A draft reads commands until its body is complete; the body is a row of statements.
+// Neither stage is a failure, so this is an enum of its own and no `Result`.
 #[derive(Clone, Copy)]
 pub enum Stage {
     Reading(Awaiting),
@@ -69,8 +71,11 @@ pub struct Whole {
     pub pools: Pools,
 }
 
+// Each kind of record has an impl of its own, as the language wants it: the type alone differs.
 impl Linked for ExprRecord {
-    ghost tag = { 0 };
+    type Table = Table;
+
+    ghost table = { Expressions };
 
     ghost link = { λ x. x.next };
 
@@ -78,8 +83,8 @@ impl Linked for ExprRecord {
 
     ghost linked = { Prim.search rules };
 
-    fn tag() -> u8 {
-        0
+    fn table() -> Table {
+        Table::Expressions
     }
 
     fn next(&self) -> u32 {
@@ -92,7 +97,9 @@ impl Linked for ExprRecord {
 }
 
 impl Linked for StmtRecord {
-    ghost tag = { 1 };
+    type Table = Table;
+
+    ghost table = { Statements };
 
     ghost link = { λ x. x.next };
 
@@ -100,8 +107,8 @@ impl Linked for StmtRecord {
 
     ghost linked = { Prim.search rules };
 
-    fn tag() -> u8 {
-        1
+    fn table() -> Table {
+        Table::Statements
     }
 
     fn next(&self) -> u32 {
@@ -114,7 +121,9 @@ impl Linked for StmtRecord {
 }
 
 impl Linked for DeclRecord {
-    ghost tag = { 2 };
+    type Table = Table;
+
+    ghost table = { Declarators };
 
     ghost link = { λ x. x.next };
 
@@ -122,8 +131,8 @@ impl Linked for DeclRecord {
 
     ghost linked = { Prim.search rules };
 
-    fn tag() -> u8 {
-        2
+    fn table() -> Table {
+        Table::Declarators
     }
 
     fn next(&self) -> u32 {

@@ -19,6 +19,7 @@ fn relink<R: Linked>(table: &mut [R], at: u32, row: u32) -> Option<u32>
       | Some next ↦ (at < length table.old) × (table.new ≡ modify (λ x. R.relinked x row) at table.old) × (next ≡ slice_index (map R.link table.old) at)
     ] }
 {
+    // By index, since with `get_mut` the proof did not close: what it leaves in the table is not known.
     if at as usize >= table.len() {
         return None;
     }
@@ -34,13 +35,11 @@ pub fn turn<R: Linked>(table: &mut [R], top: u32, count: u32) -> TurnedRow
     let mut row = NOWHERE;
     let mut rest = top;
     for _i in 0..count {
-        match relink(table, rest, row) {
-            None => return TurnedRow { row, rest },
-            Some(next) => {
-                row = rest;
-                rest = next;
-            }
-        }
+        let Some(next) = relink(table, rest, row) else {
+            return TurnedRow { row, rest };
+        };
+        row = rest;
+        rest = next;
     }
     TurnedRow { row, rest }
 }

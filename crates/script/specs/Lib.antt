@@ -6,3 +6,4 @@ pub mod Reading
 pub mod Sound
 pub mod Written
 pub mod Laws
+pub mod Operand

@@ -1,11 +1,14 @@
 -- The bytes of a body, parts before their command and in source order. Each function gives the bytes of a part in front of those that follow.
-use Rattle.std.specs.Prelude.{List, [], ◌∷◌, ℕ, suc, ◌+◌, ◌/◌, ◌%◌}
+use Rattle.std.specs.Prelude.{List, [], ◌∷◌, ℕ, suc, ◌+◌, ◌*◌, ◌/◌, ◌%◌, cond}
 use Rattle.script.specs.declared.Word.{Word}
 use Rattle.script.specs.declared.Word.TheVariants.{False, True, Null}
 use Rattle.script.specs.declared.LogicalOperator.{LogicalOperator}
 use Rattle.script.specs.declared.LogicalOperator.TheVariants.{And, Or, Nullish}
 use Rattle.script.specs.declared.DeclarationKind.{DeclarationKind}
 use Rattle.script.specs.declared.DeclarationKind.TheVariants.{Var, Let, Const}
+use Rattle.script.specs.declared.ForInit.{ForInit}
+use Rattle.script.specs.declared.ForInit.TheVariants as init
+use Rattle.script.specs.declared.ForHead.{ForHead}
 use Rattle.script.specs.Tree.{Expr, number, word, name, assignment, call, sequence, conditional, logical, not, void, strict_equality}
 use Rattle.script.specs.Tree.{Exprs, no_exprs, expr_then, OptionalExpr, absent, present, Declarators, no_declarators, declarator_then}
 use Rattle.script.specs.Tree.{Init, no_init, init_expression, init_declaration, Alternate, no_alternate, alternate}
@@ -27,6 +30,16 @@ abbrev pub kind_byte : DeclarationKind → ℕ
 kind_byte Var = 0
 kind_byte Let = 1
 kind_byte Const = 2
+
+-- the bits of a for's init
+abbrev pub init_byte : ForInit → ℕ
+init_byte init.Absent = 0
+init_byte init.Expression = 1
+init_byte init.Declaration = 2
+
+-- the bits of a for's parts
+abbrev pub head_byte : ForHead → ℕ
+head_byte h = init_byte h.init + (4 * cond h.test 1 0 + 8 * cond h.update 1 0)
 
 -- a count, low byte first
 abbrev pub count_bytes : ℕ → List ℕ → List ℕ

@@ -3,11 +3,14 @@
 #![tactic(auto)]
 
 mod laws;
+mod operand;
 
 pub use laws::{
     accepted_bytes_spell, taken_bytes_keep_the_rules, written_bytes_are_taken,
     written_bytes_spell_the_body,
 };
+pub use operand::NotListed;
+use std::fmt;
 
 #[derive(Clone, Copy, PartialEq, Eq)]
 pub enum Word {
@@ -183,9 +186,19 @@ pub enum Awaiting {
 }
 
 // The three tables.
-#[derive(Clone, Copy)]
+#[derive(Clone, Copy, Debug, PartialEq, Eq)]
 pub enum Table {
     Expressions,
     Statements,
     Declarators,
+}
+
+impl fmt::Display for Table {
+    fn fmt<W: fmt::Write>(&self, f: &mut fmt::Formatter<W>) -> fmt::Result {
+        f.write_str(match self {
+            Table::Expressions => "expression",
+            Table::Statements => "statement",
+            Table::Declarators => "declarator",
+        })
+    }
 }

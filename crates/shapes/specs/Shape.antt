@@ -1,5 +1,6 @@
 -- The rules of feeding on rows of records: which parts a record may have.
-use Rattle.std.specs.Prelude.{◌≡◌, ℕ, ◌+◌, Bool, true, false, ◌&&◌, Some, None, Option, ◌==◌, nat_le}
+use Rattle.std.specs.Prelude.{◌≡◌, ℕ, ◌+◌, ◌<◌, ◌≤◌, Bool, true, false, ◌&&◌, Some, None, Option, ◌==◌, nat_le}
+use Rattle.pool.specs.Chain.{nowhere}
 use Rattle.script.specs.declared.DeclarationKind.{DeclarationKind}
 use Rattle.script.specs.declared.DeclarationKind.TheVariants.{Var, Let, Const}
 use Rattle.script.specs.declared.ExpressionKind.{ExpressionKind}
@@ -69,6 +70,10 @@ kind_declared kind.Continue = None
 abbrev pub lexical_option : Option DeclarationKind → Bool
 lexical_option None = false
 lexical_option (Some k) = lexical_kind k
+
+-- there is room to count one statement more: no count is above that of all
+abbrev pub RoomForOne : StmtSurvey → Type 0
+RoomForOne s = (s.count < nowhere) × (s.cases ≤ s.count) × (s.defaults ≤ s.count) × (s.lexicals ≤ s.count)
 
 -- one statement more, of this kind and with so many expressions of its own
 abbrev pub surveyed : StatementKind → ℕ → StmtSurvey → StmtSurvey

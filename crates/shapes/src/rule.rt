@@ -1,12 +1,12 @@
 // Which parts a record may have: the rules of feeding, as far as they look at one record and its rows.
-ghost use Rattle.std.specs.Prelude.{◌≡◌, ◌+◌, ◌<◌, ◌≤◌};
-ghost use Rattle.pool.specs.Chain.{nowhere};
-ghost use Rattle.shapes.specs.Shape.{fits_expr, fits_stmt, surveyed, kind_declared, is_case, plain_stmt, branches, head_expressions, init_statements, for_fits, values_fit, lexical_option, switch_fits};
+ghost use Rattle.std.specs.Prelude.{◌≡◌};
+ghost use Rattle.shapes.specs.Shape.{fits_expr, fits_stmt, RoomForOne, surveyed, kind_declared, plain_stmt, branches, head_expressions, init_statements, for_fits, values_fit, switch_fits};
 
 use script::{DeclarationKind, ExpressionKind, ForHead, ForInit, StatementKind};
 
 // How many statements a row has, and how many of them are cases, defaults, and declarations by let or const.
-#[derive(Clone, Copy)]
+// That none is above the count is no ghost field: `fits_stmt` takes any survey, and would ask more of its callers.
+#[derive(Clone, Copy, Default)]
 pub struct StmtSurvey {
     pub count: u32,
     pub cases: u32,
@@ -15,7 +15,7 @@ pub struct StmtSurvey {
 }
 
 // How many declarators a row has, and how many of them have no value.
-#[derive(Clone, Copy)]
+#[derive(Clone, Copy, Default)]
 pub struct DeclSurvey {
     pub count: u32,
     pub bare: u32,
@@ -81,10 +81,7 @@ fn plain(stmts: StmtSurvey, decls: DeclSurvey) -> bool
 fn values_fit(kind: DeclarationKind, bare: u32) -> bool
     ensures { result ≡ values_fit kind bare }
 {
-    match kind {
-        DeclarationKind::Var | DeclarationKind::Let => true,
-        DeclarationKind::Const => bare == 0,
-    }
+    kind != DeclarationKind::Const || bare == 0
 }
 
 fn branches(stmts: StmtSurvey, decls: DeclSurvey) -> bool
@@ -107,7 +104,7 @@ pub fn head_expressions(head: ForHead) -> u32
         ForInit::Absent | ForInit::Declaration => 0,
         ForInit::Expression => 1,
     };
-    init + (u32::from(head.test) + u32::from(head.update))
+    init + u32::from(head.test) + u32::from(head.update)
 }
 
 // How many statements a `for` has before its body.
@@ -142,31 +139,16 @@ pub fn kind_declared(kind: StatementKind) -> Option<DeclarationKind>
     }
 }
 
-fn is_case(kind: StatementKind) -> bool
-    ensures { result ≡ is_case kind }
-{
-    match kind {
-        StatementKind::Case => true,
-        _ => false,
-    }
-}
-
-fn is_lexical(first: Option<DeclarationKind>) -> bool
-    ensures { result ≡ lexical_option first }
-{
-    match first {
-        None | Some(DeclarationKind::Var) => false,
-        Some(DeclarationKind::Let | DeclarationKind::Const) => true,
-    }
-}
-
 // One statement more, with so many expressions of its own.
 pub fn surveyed(kind: StatementKind, exprs: u32, survey: StmtSurvey) -> StmtSurvey
-    requires { (survey.count < nowhere) × (survey.cases ≤ survey.count) × (survey.defaults ≤ survey.count) × (survey.lexicals ≤ survey.count) }
+    requires { RoomForOne survey }
     ensures { result ≡ surveyed kind exprs survey }
 {
-    let case = is_case(kind);
-    let lexical = is_lexical(kind_declared(kind));
+    let case = kind == StatementKind::Case;
+    let lexical = matches!(
+        kind,
+        StatementKind::Declaration(DeclarationKind::Let | DeclarationKind::Const)
+    );
     StmtSurvey {
         count: survey.count + 1,
         cases: survey.cases + u32::from(case),

@@ -1,12 +1,12 @@
 // Closing: a draft with a body becomes a whole sheet.
 ghost use Rattle.std.specs.Prelude.{◌≡◌};
-ghost use Rattle.records.specs.Readable.{tables};
+ghost use Rattle.records.specs.Lent.{heap};
 ghost use Rattle.sheet.specs.Calls.{sizes_of, Closes};
 
 use crate::limits::sizes_fit;
 use faults::SheetFault;
 use lending::draft_held;
-use records::{DeclRecord, Draft, ExprRecord, Stage, StmtRecord, Whole};
+use records::{Draft, Lent, Stage, Whole};
 
 // A draft that was not closed, and why.
 pub struct Unclosed {
@@ -15,22 +15,21 @@ pub struct Unclosed {
 }
 
 // Makes a whole sheet of a draft with a body; any other draft is given back.
-pub fn close(
-    draft: Draft,
-    exprs: &[ExprRecord],
-    stmts: &[StmtRecord],
-    decls: &[DeclRecord],
-    marks: &mut [u8],
-) -> Result<Whole, Unclosed>
-    ensures { Closes (sizes_of (tables exprs.now stmts.now decls.now) marks.old) (tables exprs.now stmts.now decls.now) draft marks.old result marks.new }
+pub fn close(draft: Draft, tables: Lent, marks: &mut [u8]) -> Result<Whole, Unclosed>
+    ensures { Closes (sizes_of (heap tables.entry) marks.old) (heap tables.entry) draft marks.old result marks.new }
 {
-    if !sizes_fit(exprs.len(), stmts.len(), decls.len(), marks.len()) {
+    if !sizes_fit(
+        tables.exprs.len(),
+        tables.stmts.len(),
+        tables.decls.len(),
+        marks.len(),
+    ) {
         return Err(Unclosed {
             draft,
             fault: SheetFault::Sizes,
         });
     }
-    if !draft_held(&draft, exprs, stmts, decls, marks) {
+    if !draft_held(&draft, tables, marks) {
         return Err(Unclosed {
             draft,
             fault: SheetFault::NotHeld,

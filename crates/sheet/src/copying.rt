@@ -1,8 +1,10 @@
 // Copying: the whole task in one call. Bytes are fed to a fresh draft, which is closed and written, up to the first refusal.
+// The tables that are written come as slices, which a caller has and keeps: a struct of them would have to be handed back.
 ghost use Rattle.std.specs.Prelude.{◌≡◌, true, length, nat_le};
 ghost use Rattle.script.specs.Tree.{Stmts};
 ghost use Rattle.script.specs.Judge.{Model, fresh, judge_all};
 ghost use Rattle.script.specs.Written.{body_bytes};
+ghost use Rattle.records.specs.Lent.{heap};
 ghost use Rattle.records.specs.Readable.{tables};
 ghost use Rattle.records.specs.Holds.{Holds, HoldsWhole, counted};
 ghost use Rattle.faults.specs.Faults.{read_number};
@@ -14,7 +16,7 @@ use crate::feeding::{Fed, feed};
 use crate::output::{Wrote, write};
 use crate::starting::start;
 use faults::ReadFault;
-use records::{DeclRecord, Draft, ExprRecord, StmtRecord, Whole};
+use records::{DeclRecord, Draft, ExprRecord, Lent, StmtRecord, Whole};
 
 // How many records of each table are left spare.
 #[derive(Clone, Copy)]
@@ -40,7 +42,7 @@ pub struct Refused {
 }
 
 impl Refused {
-    // The refusal's number.
+    // The refusal's number, which is for people to be told: code goes by the fault.
     pub fn number(self) -> u8
         ensures { result ≡ read_number self.fault }
     {
@@ -51,18 +53,16 @@ impl Refused {
 // Writes a whole sheet and ends it.
 fn write_and_end(
     whole: Whole,
-    exprs: &[ExprRecord],
-    stmts: &[StmtRecord],
-    decls: &[DeclRecord],
+    tables: Lent,
     marks: &mut [u8],
     taken: usize,
     out: &mut [u8],
 ) -> Result<Copied, Refused>
-    requires { true ≡ sizes_of (tables exprs.now stmts.now decls.now) marks.old }
-    ensures copied { (body : Stmts) → HoldsWhole (tables exprs.now stmts.now decls.now) whole body → CopiesBody (nat_le (length (body_bytes body)) (length out.old)) (body_bytes body) (counted whole.pools) taken out.old result out.new }
+    requires { true ≡ sizes_of (heap tables) marks.old }
+    ensures copied { (body : Stmts) → HoldsWhole (heap tables.entry) whole body → CopiesBody (nat_le (length (body_bytes body)) (length out.old)) (body_bytes body) (counted whole.pools) taken out.old result out.new }
     ensures cleared { marks.new ≡ cleared marks.old }
 {
-    let Wrote { whole, answer } = write(whole, exprs, stmts, decls, marks, out);
+    let Wrote { whole, answer } = write(whole, tables, marks, out);
     let Whole { body: _, pools } = whole;
     match answer {
         Ok(written) => Ok(Copied {
@@ -84,19 +84,17 @@ fn write_and_end(
 // Closes a draft that has a body and writes it.
 fn close_and_write(
     draft: Draft,
-    exprs: &[ExprRecord],
-    stmts: &[StmtRecord],
-    decls: &[DeclRecord],
+    tables: Lent,
     marks: &mut [u8],
     taken: usize,
     out: &mut [u8],
 ) -> Result<Copied, Refused>
-    requires { true ≡ sizes_of (tables exprs.now stmts.now decls.now) marks.old }
-    ensures copied { (m : Model) → Holds (tables exprs.now stmts.now decls.now) draft m → CopiesStage m.stage m.spares taken out.old result out.new }
+    requires { true ≡ sizes_of (heap tables) marks.old }
+    ensures copied { (m : Model) → Holds (heap tables.entry) draft m → CopiesStage m.stage m.spares taken out.old result out.new }
     ensures cleared { marks.new ≡ cleared marks.old }
 {
-    match close(draft, exprs, stmts, decls, marks) {
-        Ok(whole) => write_and_end(whole, exprs, stmts, decls, marks, taken, out),
+    match close(draft, tables, marks) {
+        Ok(whole) => write_and_end(whole, tables, marks, taken, out),
         Err(Unclosed { draft, fault }) => {
             let Draft {
                 stage: _,
@@ -138,7 +136,17 @@ pub fn copy(
         answer,
     } = feed(draft, exprs, stmts, decls, marks, bytes);
     match answer {
-        Ok(()) => close_and_write(draft, exprs, stmts, decls, marks, taken, out),
+        Ok(()) => close_and_write(
+            draft,
+            Lent {
+                exprs,
+                stmts,
+                decls,
+            },
+            marks,
+            taken,
+            out,
+        ),
         Err(fault) => {
             let Draft {
                 stage: _,

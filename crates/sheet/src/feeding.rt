@@ -1,4 +1,5 @@
 // Feeding: bytes are judged one after another, and the tables hold what was taken.
+// The tables that are written come as slices, which a caller has and keeps: a struct of them would have to be handed back.
 ghost use Rattle.std.specs.Prelude.{◌≡◌};
 ghost use Rattle.records.specs.Readable.{tables};
 ghost use Rattle.sheet.specs.Calls.{sizes_of, Feeds, ReadsTaken};
@@ -7,7 +8,7 @@ use crate::limits::sizes_fit;
 use faults::{ReadFault, SheetFault};
 use lending::draft_held;
 use reading::{Taken, feed_bytes};
-use records::{DeclRecord, Draft, ExprRecord, StmtRecord};
+use records::{DeclRecord, Draft, ExprRecord, Lent, StmtRecord};
 
 // The draft handed on, how many bytes were taken, and why no more.
 pub struct Fed {
@@ -35,7 +36,15 @@ pub fn feed(
             answer: Err(ReadFault::from(SheetFault::Sizes)),
         };
     }
-    if !draft_held(&draft, exprs, stmts, decls, marks) {
+    if !draft_held(
+        &draft,
+        Lent {
+            exprs,
+            stmts,
+            decls,
+        },
+        marks,
+    ) {
         return Fed {
             draft,
             taken: 0,

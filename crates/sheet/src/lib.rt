@@ -14,5 +14,5 @@ pub use faults::{ReadFault, SheetFault};
 pub use feeding::{Fed, feed};
 pub use limits::{DECL_LIMIT, EXPR_LIMIT, STMT_LIMIT};
 pub use output::{Wrote, write};
-pub use records::{DeclRecord, Draft, ExprRecord, Pools, Stack, Stage, StmtRecord, Whole};
+pub use records::{DeclRecord, Draft, ExprRecord, Lent, Pools, Stack, Stage, StmtRecord, Whole};
 pub use starting::start;

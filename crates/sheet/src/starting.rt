@@ -1,4 +1,5 @@
 // Starting: a fresh draft with every record spare.
+// The tables that are written come as slices, which a caller has and keeps: a struct of them would have to be handed back.
 ghost use Rattle.std.specs.Prelude.{◌≡◌};
 ghost use Rattle.records.specs.Readable.{tables};
 ghost use Rattle.sheet.specs.Calls.{sizes_of, Starts};

@@ -33,7 +33,6 @@
 //     return shown === count ? true : shown;
 #![tactic(auto)]
 
-mod meaning;
 mod report;
 
 use crate::report::{show_passed, show_refusal};

@@ -1,5 +1,4 @@
 // What a person is told of a pass.
-use crate::meaning::meaning;
 use sheet::{Copied, ReadFault, Refused, SheetFault, Spared};
 use std::io;
 use tables::Sizes;
@@ -57,7 +56,7 @@ pub fn show_refusal(rt: &HostRuntime, refusal: Refused, bytes: &[u8]) -> io::Res
     println!(rt;
         "refused {}: {}\ntaken: {} bytes",
         refusal.number(),
-        meaning(refusal.fault),
+        refusal.fault,
         refusal.taken
     )?;
     match refused_byte(refusal, bytes) {
@@ -76,9 +75,10 @@ fn refused_byte(refusal: Refused, bytes: &[u8]) -> Option<u8> {
 
 // Whether one byte was refused, and not a whole call.
 fn is_of_byte(fault: ReadFault) -> bool {
-    match fault {
-        ReadFault::Sheet(SheetFault::Spares(_)) => true,
-        ReadFault::Sheet(_) => false,
-        _ => true,
-    }
+    !matches!(
+        fault,
+        ReadFault::Sheet(
+            SheetFault::Sizes | SheetFault::NotHeld | SheetFault::NoBody | SheetFault::ShortOutput
+        )
+    )
 }

@@ -144,13 +144,9 @@ fn show(rt: &HostRuntime, call: &str, rate: f64, before: Option<f64>) -> io::Res
 }
 
 fn show_all(rt: &HostRuntime, rates: Rates, before: Option<Rates>) -> io::Result<()> {
-    let (feed, close, write) = match before {
-        Some(before) => (Some(before.feed), Some(before.close), Some(before.write)),
-        None => (None, None, None),
-    };
-    show(rt, "feed", rates.feed, feed)?;
-    show(rt, "close", rates.close, close)?;
-    show(rt, "write", rates.write, write)
+    show(rt, "feed", rates.feed, before.map(|before| before.feed))?;
+    show(rt, "close", rates.close, before.map(|before| before.close))?;
+    show(rt, "write", rates.write, before.map(|before| before.write))
 }
 
 fn run(rt: &HostRuntime) -> anyhow::Result<()> {

@@ -4,7 +4,9 @@
 mod pass;
 
 use script::{ExpressionKind, StatementKind, Word};
-use sheet::{DeclRecord, Draft, ExprRecord, Fed, SheetFault, StmtRecord, Unclosed, Whole, Wrote};
+use sheet::{
+    DeclRecord, Draft, ExprRecord, Fed, Lent, SheetFault, StmtRecord, Unclosed, Whole, Wrote,
+};
 use std::alloc::{AllocError, Global};
 
 // How many records each table has.
@@ -24,6 +26,27 @@ impl Sizes {
     }
 }
 
+// What each record of new tables holds. It is of no account: a start writes the links, and records are written as they are taken.
+const EXPR: ExprRecord = ExprRecord {
+    kind: ExpressionKind::Word(Word::Null),
+    first: 0,
+    next: 0,
+};
+
+const STMT: StmtRecord = StmtRecord {
+    kind: StatementKind::Empty,
+    exprs: 0,
+    stmts: 0,
+    decls: 0,
+    next: 0,
+};
+
+const DECL: DeclRecord = DeclRecord {
+    name: 0,
+    value: 0,
+    next: 0,
+};
+
 #[derive(Drop)]
 pub struct Tables {
     pub exprs: Vec<ExprRecord>,
@@ -33,75 +56,63 @@ pub struct Tables {
 }
 
 impl Tables {
-    // Tables of these sizes with a mark for each record. What the records hold at first is of no account.
+    // Tables of these sizes with a mark for each record.
     pub fn new(heap: Global, sizes: Sizes) -> Result<Tables, AllocError> {
-        let expr = ExprRecord {
-            kind: ExpressionKind::Word(Word::Null),
-            first: 0,
-            next: 0,
-        };
-        let stmt = StmtRecord {
-            kind: StatementKind::Empty,
-            exprs: 0,
-            stmts: 0,
-            decls: 0,
-            next: 0,
-        };
-        let decl = DeclRecord {
-            name: 0,
-            value: 0,
-            next: 0,
-        };
         Ok(Tables {
-            exprs: vec![in heap; expr; sizes.exprs]?,
-            stmts: vec![in heap; stmt; sizes.stmts]?,
-            decls: vec![in heap; decl; sizes.decls]?,
+            exprs: vec![in heap; EXPR; sizes.exprs]?,
+            stmts: vec![in heap; STMT; sizes.stmts]?,
+            decls: vec![in heap; DECL; sizes.decls]?,
             marks: vec![in heap; 0; sizes.total()]?,
         })
     }
 
     pub fn start(&mut self) -> Result<Draft, SheetFault> {
-        let Tables {
-            exprs,
-            stmts,
-            decls,
-            marks,
-        } = self;
-        sheet::start(exprs, stmts, decls, marks)
+        sheet::start(
+            &mut self.exprs,
+            &mut self.stmts,
+            &mut self.decls,
+            &mut self.marks,
+        )
     }
 
     pub fn feed(&mut self, draft: Draft, bytes: &[u8]) -> Fed {
-        let Tables {
-            exprs,
-            stmts,
-            decls,
-            marks,
-        } = self;
-        sheet::feed(draft, exprs, stmts, decls, marks, bytes)
+        sheet::feed(
+            draft,
+            &mut self.exprs,
+            &mut self.stmts,
+            &mut self.decls,
+            &mut self.marks,
+            bytes,
+        )
     }
 
     pub fn close(&mut self, draft: Draft) -> Result<Whole, Unclosed> {
-        let Tables {
-            exprs,
-            stmts,
-            decls,
-            marks,
-        } = self;
-        sheet::close(draft, exprs, stmts, decls, marks)
+        sheet::close(
+            draft,
+            Lent {
+                exprs: &self.exprs,
+                stmts: &self.stmts,
+                decls: &self.decls,
+            },
+            &mut self.marks,
+        )
     }
 
     pub fn write(&mut self, whole: Whole, out: &mut [u8]) -> Wrote {
-        let Tables {
-            exprs,
-            stmts,
-            decls,
-            marks,
-        } = self;
-        sheet::write(whole, exprs, stmts, decls, marks, out)
+        sheet::write(
+            whole,
+            Lent {
+                exprs: &self.exprs,
+                stmts: &self.stmts,
+                decls: &self.decls,
+            },
+            &mut self.marks,
+            out,
+        )
     }
 }
 
-// Ends a draft: it is taken apart, and its numbers are let go.
+// Ends a draft: it is taken apart, and its numbers are let go. A pattern with `..` takes no such value apart.
 pub fn end_draft(draft: Draft) {
     let Draft {
         stage: _,

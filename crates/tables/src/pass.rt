@@ -4,12 +4,13 @@ use sheet::{Copied, Refused};
 
 impl Tables {
     pub fn pass(&mut self, bytes: &[u8], out: &mut [u8]) -> Result<Copied, Refused> {
-        let Tables {
-            exprs,
-            stmts,
-            decls,
-            marks,
-        } = self;
-        sheet::copy(exprs, stmts, decls, marks, bytes, out)
+        sheet::copy(
+            &mut self.exprs,
+            &mut self.stmts,
+            &mut self.decls,
+            &mut self.marks,
+            bytes,
+            out,
+        )
     }
 }

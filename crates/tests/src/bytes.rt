@@ -390,12 +390,12 @@ fn stay(rt: &impl Abort, heap: Global, tables: &mut Tables, case: Stuck) -> Resu
 }
 
 // What becomes of a first byte: it is taken, lacks its items, or is no command.
-fn first_number(byte: u8) -> u8 {
+fn told_first(byte: u8) -> Told {
     match byte {
         0x01..=0x06 | 0x08 | 0x10 | 0x11 | 0x20 | 0x22 | 0x23 | 0x28 | 0x2b | 0x2d..=0x30 | 0x3f =>
-            0,
-        0x07 | 0x09..=0x0b | 0x21 | 0x24..=0x27 | 0x29 | 0x2a => 6,
-        _ => 4,
+            Told::all(&[byte]),
+        0x07 | 0x09..=0x0b | 0x21 | 0x24..=0x27 | 0x29 | 0x2a => Told::refused(0, 6),
+        _ => Told::refused(0, 4),
     }
 }
 
@@ -403,15 +403,8 @@ fn first_number(byte: u8) -> u8 {
 fn first_bytes_are_commands(rt: HostRuntime) -> Result<(), Fail> {
     let mut tables = small_tables(rt.alloc())?;
     for byte in 0..=255 {
-        let number = first_number(byte);
         let draft = start(&rt, &mut tables)?;
-        let draft = feed(
-            &rt,
-            &mut tables,
-            draft,
-            &[byte],
-            Told::refused(if number == 0 { 1 } else { 0 }, number),
-        )?;
+        let draft = feed(&rt, &mut tables, draft, &[byte], told_first(byte))?;
         end_draft(draft);
     }
     Ok(())

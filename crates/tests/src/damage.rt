@@ -1,7 +1,7 @@
 // Damaged copies of good sheets, and tables that were changed between calls.
 use crate::steps::*;
 use script::{ExpressionKind, StatementKind};
-use sheet::{DeclRecord, Draft, ExprRecord, StmtRecord};
+use sheet::{Draft, ExprRecord, StmtRecord};
 use std::alloc::Global;
 use std::process::Abort;
 use std::test::Fail;
@@ -31,20 +31,20 @@ fn break_off(rt: &impl Abort, tables: &mut Tables, bytes: &[u8], at: usize) -> R
     finish(rt, tables, draft, &mut out, bytes)
 }
 
-// What becomes of `CALLS` with ff at each place: the bytes taken and the refusal's number.
-const CHANGED: [(usize, u8); 12] = [
-    (0, 4),
-    (12, 0),
-    (2, 6),
-    (3, 4),
-    (4, 4),
-    (12, 0),
-    (6, 6),
-    (7, 4),
-    (8, 4),
-    (9, 5),
-    (11, 6),
-    (11, 6),
+// What becomes of `CALLS` with ff at each place: the bytes taken and the refusal's number, if one is refused.
+const CHANGED: [(usize, Option<u8>); 12] = [
+    (0, Some(4)),
+    (12, None),
+    (2, Some(6)),
+    (3, Some(4)),
+    (4, Some(4)),
+    (12, None),
+    (6, Some(6)),
+    (7, Some(4)),
+    (8, Some(4)),
+    (9, Some(5)),
+    (11, Some(6)),
+    (11, Some(6)),
 ];
 
 #[test]
@@ -62,7 +62,7 @@ fn change(
     tables: &mut Tables,
     at: usize,
     taken: usize,
-    number: u8,
+    number: Option<u8>,
 ) -> Result<(), Fail> {
     let mut bytes = CALLS.to_vec(heap)?;
     if let Some(byte) = bytes.get_mut(at) {
@@ -70,8 +70,13 @@ fn change(
     }
     let mut out = [0; OUTPUT];
     let draft = start(rt, tables)?;
-    let draft = feed(rt, tables, draft, &bytes, Told::refused(taken, number))?;
-    if number == 0 {
+    let told = Told {
+        taken,
+        number,
+        table: None,
+    };
+    let draft = feed(rt, tables, draft, &bytes, told)?;
+    if number.is_none() {
         return finish(rt, tables, draft, &mut out, &bytes);
     }
     let draft = unclosed(rt, tables, draft, 10)?;
@@ -79,149 +84,151 @@ fn change(
     Ok(())
 }
 
-// A part of a record, which a change turns into another, and the same change turns back.
-#[derive(Clone, Copy)]
-enum Part {
-    ExprKind,
-    ExprFirst,
-    ExprNext,
-    StmtKind,
-    StmtExprs,
-    StmtStmts,
-    StmtDecls,
-    StmtNext,
-    DeclValue,
-    DeclNext,
-}
-
-const LINKS: [Part; 8] = [
-    Part::ExprFirst,
-    Part::ExprNext,
-    Part::StmtExprs,
-    Part::StmtStmts,
-    Part::StmtDecls,
-    Part::StmtNext,
-    Part::DeclValue,
-    Part::DeclNext,
-];
-
 // Each link of a sheet that fills its tables, and a kind of each table, is spoilt before each call and mended after it.
 #[test]
 fn spoilt_tables_are_refused(rt: HostRuntime) -> Result<(), Fail> {
     let mut tables = Tables::new(rt.alloc(), DECLARED_SIZES)?;
-    for link in LINKS {
-        spoil_and_mend(&rt, &mut tables, link, 0)?;
-        spoil_and_mend(&rt, &mut tables, link, 1)?;
+    for at in [0, 1] {
+        spoil_and_mend(
+            &rt,
+            &mut tables,
+            |tables| change_at(&mut tables.exprs, at, |record| record.first ^= 1),
+        )?;
+        spoil_and_mend(
+            &rt,
+            &mut tables,
+            |tables| change_at(&mut tables.exprs, at, |record| record.next ^= 1),
+        )?;
+        spoil_and_mend(
+            &rt,
+            &mut tables,
+            |tables| change_at(&mut tables.stmts, at, |record| record.exprs ^= 1),
+        )?;
+        spoil_and_mend(
+            &rt,
+            &mut tables,
+            |tables| change_at(&mut tables.stmts, at, |record| record.stmts ^= 1),
+        )?;
+        spoil_and_mend(
+            &rt,
+            &mut tables,
+            |tables| change_at(&mut tables.stmts, at, |record| record.decls ^= 1),
+        )?;
+        spoil_and_mend(
+            &rt,
+            &mut tables,
+            |tables| change_at(&mut tables.stmts, at, |record| record.next ^= 1),
+        )?;
+        spoil_and_mend(
+            &rt,
+            &mut tables,
+            |tables| change_at(&mut tables.decls, at, |record| record.value ^= 1),
+        )?;
+        spoil_and_mend(
+            &rt,
+            &mut tables,
+            |tables| change_at(&mut tables.decls, at, |record| record.next ^= 1),
+        )?;
     }
-    spoil_and_mend(&rt, &mut tables, Part::ExprKind, 1)?;
-    spoil_and_mend(&rt, &mut tables, Part::StmtKind, 1)
+    spoil_and_mend(
+        &rt,
+        &mut tables,
+        |tables| change_at(&mut tables.exprs, 1, change_expr_kind),
+    )?;
+    spoil_and_mend(
+        &rt,
+        &mut tables,
+        |tables| change_at(&mut tables.stmts, 1, change_stmt_kind),
+    )
 }
 
-fn spoil_and_mend(rt: &impl Abort, tables: &mut Tables, part: Part, at: usize) -> Result<(), Fail> {
+// A sheet whose tables are changed before each call; the same change mends them.
+fn spoil_and_mend<C: Fn(&mut Tables)>(
+    rt: &impl Abort,
+    tables: &mut Tables,
+    change: C,
+) -> Result<(), Fail>
+    requires { C.IsAlwaysCallable change }
+{
     let (front, back) = DECLARED
         .split_at_checked(DECLARED.len() - 1)
         .ok_or("no such place")?;
     let mut out = [0; OUTPUT];
     let draft = start(rt, tables)?;
     let draft = feed_all(rt, tables, draft, front)?;
-    change_part(tables, part, at);
+    change(tables);
     let draft = feed(rt, tables, draft, back, Told::refused(0, 2))?;
-    change_part(tables, part, at);
+    change(tables);
     let draft = feed_all(rt, tables, draft, back)?;
-    change_part(tables, part, at);
+    change(tables);
     let draft = unclosed(rt, tables, draft, 2)?;
-    change_part(tables, part, at);
+    change(tables);
     let whole = close(rt, tables, draft)?;
-    change_part(tables, part, at);
+    change(tables);
     let whole = unwritten(rt, tables, whole, &mut out, 2)?;
-    change_part(tables, part, at);
+    change(tables);
     let whole = write(rt, tables, whole, &mut out, DECLARED)?;
     end_whole(whole);
     Ok(())
 }
 
-fn change_part(tables: &mut Tables, part: Part, at: usize) {
-    if let Some(record) = tables.exprs.get_mut(at) {
-        change_expr(record, part);
-    }
-    if let Some(record) = tables.stmts.get_mut(at) {
-        change_stmt(record, part);
-    }
-    if let Some(record) = tables.decls.get_mut(at) {
-        change_decl(record, part);
+fn change_at<R, C: FnOnce(&mut R) + Drop>(records: &mut [R], at: usize, change: C)
+    requires { C.IsAlwaysCallable change }
+{
+    if let Some(record) = records.get_mut(at) {
+        change(record);
     }
 }
 
-fn change_expr(record: &mut ExprRecord, part: Part) {
-    match (part, record.kind) {
-        (Part::ExprKind, ExpressionKind::Name(name)) => record.kind = ExpressionKind::Assignment(
-            name,
-        ),
-        (Part::ExprKind, ExpressionKind::Assignment(name)) => record.kind = ExpressionKind::Name(
-            name,
-        ),
-        (Part::ExprFirst, _) => record.first ^= 1,
-        (Part::ExprNext, _) => record.next ^= 1,
-        _ => {}
-    }
+// A kind into another of the same table, and back.
+fn change_expr_kind(record: &mut ExprRecord) {
+    record.kind = match record.kind {
+        ExpressionKind::Name(name) => ExpressionKind::Assignment(name),
+        ExpressionKind::Assignment(name) => ExpressionKind::Name(name),
+        kind => kind,
+    };
 }
 
-fn change_stmt(record: &mut StmtRecord, part: Part) {
-    match (part, record.kind) {
-        (Part::StmtKind, StatementKind::Expression) => record.kind = StatementKind::Empty,
-        (Part::StmtKind, StatementKind::Empty) => record.kind = StatementKind::Expression,
-        (Part::StmtExprs, _) => record.exprs ^= 1,
-        (Part::StmtStmts, _) => record.stmts ^= 1,
-        (Part::StmtDecls, _) => record.decls ^= 1,
-        (Part::StmtNext, _) => record.next ^= 1,
-        _ => {}
-    }
+fn change_stmt_kind(record: &mut StmtRecord) {
+    record.kind = match record.kind {
+        StatementKind::Expression => StatementKind::Empty,
+        StatementKind::Empty => StatementKind::Expression,
+        kind => kind,
+    };
 }
 
-fn change_decl(record: &mut DeclRecord, part: Part) {
-    match part {
-        Part::DeclValue => record.value ^= 1,
-        Part::DeclNext => record.next ^= 1,
-        _ => {}
-    }
-}
-
-// The tops and counts of a draft, one after the other.
-fn change_number(draft: Draft, which: u8) -> Draft {
-    let mut draft = draft;
-    match which {
-        0 => draft.exprs.top ^= 1,
-        1 => draft.exprs.count ^= 1,
-        2 => draft.stmts.top ^= 1,
-        3 => draft.stmts.count ^= 1,
-        4 => draft.decls.top ^= 1,
-        5 => draft.decls.count ^= 1,
-        6 => draft.pools.exprs.head ^= 1,
-        7 => draft.pools.exprs.count ^= 1,
-        8 => draft.pools.stmts.head ^= 1,
-        9 => draft.pools.stmts.count ^= 1,
-        10 => draft.pools.decls.head ^= 1,
-        _ => draft.pools.decls.count ^= 1,
-    }
-    draft
-}
-
-// A draft with a number that the tables do not bear out.
+// A draft with a top or a count that the tables do not bear out: each is spoilt, and mended by the same change.
 #[test]
 fn spoilt_drafts_are_refused(rt: HostRuntime) -> Result<(), Fail> {
     let mut tables = small_tables(rt.alloc())?;
-    for which in 0..12 {
-        spoil_draft(&rt, &mut tables, which)?;
-    }
-    Ok(())
+    spoil_draft(&rt, &mut tables, |draft| draft.exprs.top ^= 1)?;
+    spoil_draft(&rt, &mut tables, |draft| draft.exprs.count ^= 1)?;
+    spoil_draft(&rt, &mut tables, |draft| draft.stmts.top ^= 1)?;
+    spoil_draft(&rt, &mut tables, |draft| draft.stmts.count ^= 1)?;
+    spoil_draft(&rt, &mut tables, |draft| draft.decls.top ^= 1)?;
+    spoil_draft(&rt, &mut tables, |draft| draft.decls.count ^= 1)?;
+    spoil_draft(&rt, &mut tables, |draft| draft.pools.exprs.head ^= 1)?;
+    spoil_draft(&rt, &mut tables, |draft| draft.pools.exprs.count ^= 1)?;
+    spoil_draft(&rt, &mut tables, |draft| draft.pools.stmts.head ^= 1)?;
+    spoil_draft(&rt, &mut tables, |draft| draft.pools.stmts.count ^= 1)?;
+    spoil_draft(&rt, &mut tables, |draft| draft.pools.decls.head ^= 1)?;
+    spoil_draft(&rt, &mut tables, |draft| draft.pools.decls.count ^= 1)
 }
 
-fn spoil_draft(rt: &impl Abort, tables: &mut Tables, which: u8) -> Result<(), Fail> {
+fn spoil_draft<C: Fn(&mut Draft)>(
+    rt: &impl Abort,
+    tables: &mut Tables,
+    change: C,
+) -> Result<(), Fail>
+    requires { C.IsAlwaysCallable change }
+{
     let mut out = [0; OUTPUT];
-    let draft = start(rt, tables)?;
-    let draft = unclosed(rt, tables, change_number(draft, which), 2)?;
-    let draft = feed(rt, tables, draft, DECLARED, Told::refused(0, 2))?;
-    let draft = feed_all(rt, tables, change_number(draft, which), DECLARED)?;
+    let mut draft = start(rt, tables)?;
+    change(&mut draft);
+    let draft = unclosed(rt, tables, draft, 2)?;
+    let mut draft = feed(rt, tables, draft, DECLARED, Told::refused(0, 2))?;
+    change(&mut draft);
+    let draft = feed_all(rt, tables, draft, DECLARED)?;
     finish(rt, tables, draft, &mut out, DECLARED)
 }
 

@@ -1,5 +1,6 @@
 // Tables, marks, counts and outputs at their limits, and one over or short of them.
 use crate::steps::*;
+use script::Table;
 use sheet::{DECL_LIMIT, EXPR_LIMIT, STMT_LIMIT};
 use std::alloc::Global;
 use std::process::Abort;
@@ -9,7 +10,7 @@ use tables::{Sizes, Tables, end_draft, end_whole};
 // Tables that are a record or two short for `DECLARED`: which one, and the bytes taken before that tells.
 struct Short {
     sizes: Sizes,
-    table: u8,
+    table: Table,
     taken: usize,
 }
 
@@ -20,7 +21,7 @@ const SHORT: &[Short] = &[
             stmts: 2,
             decls: 2,
         },
-        table: 0,
+        table: Table::Expressions,
         taken: 14,
     },
     Short {
@@ -29,7 +30,7 @@ const SHORT: &[Short] = &[
             stmts: 0,
             decls: 0,
         },
-        table: 0,
+        table: Table::Expressions,
         taken: 4,
     },
     Short {
@@ -38,7 +39,7 @@ const SHORT: &[Short] = &[
             stmts: 1,
             decls: 2,
         },
-        table: 1,
+        table: Table::Statements,
         taken: 15,
     },
     Short {
@@ -47,7 +48,7 @@ const SHORT: &[Short] = &[
             stmts: 0,
             decls: 2,
         },
-        table: 1,
+        table: Table::Statements,
         taken: 12,
     },
     Short {
@@ -56,7 +57,7 @@ const SHORT: &[Short] = &[
             stmts: 2,
             decls: 1,
         },
-        table: 2,
+        table: Table::Declarators,
         taken: 8,
     },
     Short {
@@ -65,7 +66,7 @@ const SHORT: &[Short] = &[
             stmts: 2,
             decls: 0,
         },
-        table: 2,
+        table: Table::Declarators,
         taken: 6,
     },
 ];
@@ -114,7 +115,13 @@ fn short_tables_are_told_last(rt: HostRuntime) -> Result<(), Fail> {
         &[0x2f, 0, 0, 0, 0x26],
         Told::refused(4, 7),
     )?;
-    let draft = feed(&rt, &mut tables, draft, &[0x30, 1, 0], Told::short(2, 1))?;
+    let draft = feed(
+        &rt,
+        &mut tables,
+        draft,
+        &[0x30, 1, 0],
+        Told::short(2, Table::Statements),
+    )?;
     end_draft(draft);
     Ok(())
 }

@@ -1,5 +1,6 @@
 // The calls as steps of a test: each says what has to come of it, and hands the sheet on.
 use pool::PoolFault;
+use script::Table;
 use sheet::{Draft, Fed, ReadFault, SheetFault, Unclosed, Whole, Wrote};
 use std::alloc::{AllocError, Global};
 use std::process::Abort;
@@ -25,19 +26,19 @@ const BLANK: u8 = 0xaa;
 
 const SOILED: u8 = 0x5a;
 
-// What a feed told: the bytes it took, its refusal's number or 0, and the table that was short of spares.
-#[derive(Clone, Copy, PartialEq, Eq, Debug)]
+// What a feed told: the bytes it took, its refusal's number if it had one, and the table that was short of spares.
+#[derive(Clone, Copy, Debug, PartialEq, Eq)]
 pub struct Told {
-    taken: usize,
-    number: u8,
-    table: Option<u8>,
+    pub taken: usize,
+    pub number: Option<u8>,
+    pub table: Option<Table>,
 }
 
 impl Told {
     pub fn all(bytes: &[u8]) -> Told {
         Told {
             taken: bytes.len(),
-            number: 0,
+            number: None,
             table: None,
         }
     }
@@ -45,36 +46,30 @@ impl Told {
     pub fn refused(taken: usize, number: u8) -> Told {
         Told {
             taken,
-            number,
+            number: Some(number),
             table: None,
         }
     }
 
-    pub fn short(taken: usize, table: u8) -> Told {
+    pub fn short(taken: usize, table: Table) -> Told {
         Told {
             taken,
-            number: 9,
+            number: Some(9),
             table: Some(table),
         }
     }
 
     fn of(taken: usize, answer: Result<(), ReadFault>) -> Told {
-        match answer {
-            Ok(()) => Told {
-                taken,
-                number: 0,
-                table: None,
-            },
-            Err(fault) => Told {
-                taken,
-                number: fault.number(),
-                table: short_table(fault),
-            },
+        let fault = answer.err();
+        Told {
+            taken,
+            number: fault.map(|fault| fault.number()),
+            table: fault.and_then(short_table),
         }
     }
 }
 
-fn short_table(fault: ReadFault) -> Option<u8> {
+fn short_table(fault: ReadFault) -> Option<Table> {
     match fault {
         ReadFault::Sheet(SheetFault::Spares(PoolFault::Empty(table))) => Some(table),
         _ => None,
@@ -102,7 +97,7 @@ pub fn joined(heap: Global, front: &[u8], back: &[u8]) -> Result<Vec<u8>, AllocE
 pub fn start(rt: &impl Abort, tables: &mut Tables) -> Result<Draft, Fail> {
     soil(tables);
     match tables.start() {
-        Ok(draft) => keep_draft(draft, check_marks(rt, tables, 0)),
+        Ok(draft) => keep(draft, end_draft, check_marks(rt, tables, None)),
         Err(fault) => Err(Fail::new(format_args!("start was refused by {}", fault.number()))),
     }
 }
@@ -117,7 +112,7 @@ pub fn unstarted(rt: &impl Abort, tables: &mut Tables, number: u8) -> Result<(),
         }
         Err(fault) => {
             assert_eq!(rt; fault.number(), number);
-            check_marks(rt, tables, number)?;
+            check_marks(rt, tables, Some(number))?;
             assert!(rt; is_fresh(tables), "the tables were changed");
             Ok(())
         }
@@ -138,7 +133,7 @@ pub fn feed(
         answer,
     } = tables.feed(draft, bytes);
     assert_eq!(rt; Told::of(taken, answer), told, "fed {bytes:?}");
-    keep_draft(draft, check_marks(rt, tables, told.number))
+    keep(draft, end_draft, check_marks(rt, tables, told.number))
 }
 
 pub fn feed_all(
@@ -153,7 +148,7 @@ pub fn feed_all(
 pub fn close(rt: &impl Abort, tables: &mut Tables, draft: Draft) -> Result<Whole, Fail> {
     soil(tables);
     match tables.close(draft) {
-        Ok(whole) => keep_whole(whole, check_marks(rt, tables, 0)),
+        Ok(whole) => keep(whole, end_whole, check_marks(rt, tables, None)),
         Err(Unclosed { draft, fault }) => {
             end_draft(draft);
             Err(Fail::new(format_args!("close was refused by {}", fault.number())))
@@ -176,7 +171,7 @@ pub fn unclosed(
         }
         Err(Unclosed { draft, fault }) => {
             assert_eq!(rt; fault.number(), number);
-            keep_draft(draft, check_marks(rt, tables, number))
+            keep(draft, end_draft, check_marks(rt, tables, Some(number)))
         }
     }
 }
@@ -190,11 +185,11 @@ pub fn write(
     bytes: &[u8],
 ) -> Result<Whole, Fail> {
     soil(tables);
-    fill(out, BLANK);
+    out.fill(BLANK);
     let Wrote { whole, answer } = tables.write(whole, out);
-    assert_eq!(rt; write_number(answer), 0);
-    let whole = keep_whole(whole, check_written(rt, answer, out, bytes))?;
-    keep_whole(whole, check_marks(rt, tables, 0))
+    assert_eq!(rt; number_of(answer), None);
+    let whole = keep(whole, end_whole, check_written(rt, answer, out, bytes))?;
+    keep(whole, end_whole, check_marks(rt, tables, None))
 }
 
 // A write that has to be refused by this number and to leave the output as it was.
@@ -206,18 +201,15 @@ pub fn unwritten(
     number: u8,
 ) -> Result<Whole, Fail> {
     soil(tables);
-    fill(out, BLANK);
+    out.fill(BLANK);
     let Wrote { whole, answer } = tables.write(whole, out);
-    assert_eq!(rt; write_number(answer), number);
+    assert_eq!(rt; number_of(answer), Some(number));
     assert!(rt; is_all(out, BLANK), "the output was changed");
-    keep_whole(whole, check_marks(rt, tables, number))
+    keep(whole, end_whole, check_marks(rt, tables, Some(number)))
 }
 
-fn write_number(answer: Result<usize, SheetFault>) -> u8 {
-    match answer {
-        Ok(_) => 0,
-        Err(fault) => fault.number(),
-    }
+fn number_of(answer: Result<usize, SheetFault>) -> Option<u8> {
+    answer.err().map(|fault| fault.number())
 }
 
 fn check_written(
@@ -253,18 +245,12 @@ pub fn finish(
 }
 
 fn soil(tables: &mut Tables) {
-    fill(&mut tables.marks, SOILED);
-}
-
-fn fill(bytes: &mut [u8], value: u8) {
-    for byte in bytes.iter_mut() {
-        *byte = value;
-    }
+    tables.marks.fill(SOILED);
 }
 
 // A call clears the marks, but for one that is refused for its sizes.
-fn check_marks(rt: &impl Abort, tables: &Tables, number: u8) -> Result<(), Fail> {
-    let left = if number == 1 { SOILED } else { 0 };
+fn check_marks(rt: &impl Abort, tables: &Tables, number: Option<u8>) -> Result<(), Fail> {
+    let left = if number == Some(1) { SOILED } else { 0 };
     assert!(rt;
         is_all(&tables.marks, left),
         "the marks are not as they should be"
@@ -274,48 +260,23 @@ fn check_marks(rt: &impl Abort, tables: &Tables, number: u8) -> Result<(), Fail>
 
 // The links of tables that no call has changed are 0.
 fn is_fresh(tables: &Tables) -> bool {
-    for record in tables.exprs.iter() {
-        if record.next != 0 {
-            return false;
-        }
-    }
-    for record in tables.stmts.iter() {
-        if record.next != 0 {
-            return false;
-        }
-    }
-    for record in tables.decls.iter() {
-        if record.next != 0 {
-            return false;
-        }
-    }
-    true
+    tables.exprs.iter().all(|record| record.next == 0)
+        && tables.stmts.iter().all(|record| record.next == 0)
+        && tables.decls.iter().all(|record| record.next == 0)
 }
 
 fn is_all(bytes: &[u8], value: u8) -> bool {
-    for byte in bytes {
-        if *byte != value {
-            return false;
-        }
-    }
-    true
+    bytes.iter().all(|byte| *byte == value)
 }
 
-fn keep_draft(draft: Draft, verdict: Result<(), Fail>) -> Result<Draft, Fail> {
+// Hands a draft or a sheet on, unless something was not as it should be: then it is ended.
+fn keep<T, E: FnOnce(T) + Drop>(sheet: T, end: E, verdict: Result<(), Fail>) -> Result<T, Fail>
+    requires { E.IsAlwaysCallable end }
+{
     match verdict {
-        Ok(()) => Ok(draft),
+        Ok(()) => Ok(sheet),
         Err(fail) => {
-            end_draft(draft);
-            Err(fail)
-        }
-    }
-}
-
-fn keep_whole(whole: Whole, verdict: Result<(), Fail>) -> Result<Whole, Fail> {
-    match verdict {
-        Ok(()) => Ok(whole),
-        Err(fail) => {
-            end_whole(whole);
+            end(sheet);
             Err(fail)
         }
     }

@@ -22,7 +22,7 @@ use Rattle.rules.proofs.BudgetUnreachable.{bare_declarators_records, dead_and_ke
 use Rattle.rules.proofs.StatementMoves.{push_all_records}
 use Rattle.moves.specs.Cells.{Took}
 use Rattle.moves.specs.Moved.{Moved, Turns}
-use Rattle.moves.proofs.Frames.{kept_both, stays, then_move}
+use Rattle.moves.proofs.Frames.{kept_both, then_move}
 use Rattle.moves.proofs.Open.{close_stmt}
 use Rattle.moves.proofs.Single.{take_stmt_of}
 use Rattle.moves.proofs.Spared.{spared}
@@ -30,13 +30,6 @@ use Rattle.moves.proofs.Spared.{spared}
 -- the record of the `var`
 abbrev pub var_record : ℕ → ℕ → StmtRecord
 var_record names results = record { kind = statement.Declaration Var; exprs = nowhere; stmts = nowhere; decls = names; next = results }
-
--- no names, no `var`
-pub push_none : {h : Heap} {p : Pools} {loose : List Place} {rest : List Root} {results : ℕ} (l : List ℕ) (r : Stmts) → length l ≡ 0
-    → Owns h p loose ((stmt_at results, stmts_row r) ∷ rest)
-    → Moved h h p loose ((stmt_at results, stmts_row (push_kept_vars l r)) ∷ rest)
-push_none [] r e o = stays o
-push_none (n ∷ ns) r e o = absurd (omega arith)
 
 module _ {es : List ExprRecord} {stmts : List StmtRecord} {decls decls₁ : List DeclRecord} {p p₁ : Pools} {p₂ : Pool} {loose : List Place}
     {rest : List Root} {names results at : ℕ} where

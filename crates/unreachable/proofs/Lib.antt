@@ -1,5 +1,4 @@
 pub mod Rows
-pub mod Turning
 pub mod LastJump
 pub mod Notes
 pub mod Walks

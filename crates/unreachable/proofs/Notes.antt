@@ -1,11 +1,14 @@
 -- Noting a name: what is noted then.
-use Rattle.std.proofs.Common.{◌≡◌, ℕ, zero, suc, ◌+◌, ◌<◌, ◌≤◌, Bool, true, false, cond, T, eqb, ◌≢◌, List, [], ◌∷◌, ◌++◌, length, get_or, set, replicate, sym, refl, ap, ◌∙◌, subst, ⊎_elim, add-one, arith, length-append, length-set, get_or-set_other, get_or-set_same, take-suc-set, eq-eqb, ne_eqb}
+use Rattle.std.proofs.Common.{◌≡◌, ℕ, zero, suc, ◌+◌, ◌<◌, ◌≤◌, Bool, true, false, cond, T, eqb, ◌≢◌, List, [], ◌∷◌, ◌++◌, length, get_or, set}
+use Rattle.std.proofs.Common.{replicate, sym, refl, ap, ◌∙◌, subst, ⊎_elim, arith, length-append, length-set, get_or-set_other, get_or-set_same}
+use Rattle.std.proofs.Common.{eq-eqb, ne_eqb}
 use lib.ListN.{length-replicate, get_or-replicate}
 use Rattle.std.proofs.lemmas.Bool.{cases_eq, cases_lt}
 use Rattle.pool.specs.Chain.{occurrences, same_place}
 use Rattle.pool.proofs.Chains.{same_place_other, same_place_same, same_place_self}
 use Rattle.records.proofs.Sizes.{total, total_add, total_none, total_same}
 use Rattle.run.specs.Environment.{among}
+use Rattle.arrayvec.specs.ArrayVec.{ArrayVec, array_vec_len}
 use Rattle.unreachable.specs.declared.noting.NotedNames.{NotedNames}
 use Rattle.unreachable.specs.Noted.{Notes, noted_with}
 
@@ -53,11 +56,6 @@ among_other : (k n : ℕ) (l : List ℕ) → k ≢ n → among k (l ++ (n ∷ []
 among_other k n [] ne = rw (ne_eqb k n ne) refl
 among_other k n (m ∷ l) ne = ap (λ (b : Bool). cond (eqb k m) true b) (among_other k n l ne)
 
--- a name that was met is not noted again
-pub noted_again : (noted : NotedNames) (n : ℕ) (l : List ℕ) → n < 256 → get_or noted.seen n false ≡ true → Notes noted l
-    → Notes noted (noted_with n l)
-noted_again noted n l b t q = rw (sym (q.seen n b) ∙ t) q
-
 -- a new name: the names with it stand in the list once each, and are bytes
 module _ {noted : NotedNames} {n : ℕ} {l : List ℕ} (b : n < 256) (f : get_or noted.seen n false ≡ false) (q : Notes noted l) where
   new : among n l ≡ false
@@ -77,23 +75,20 @@ module _ {noted : NotedNames} {n : ℕ} {l : List ℕ} (b : n < 256) (f : get_or
       let s = same_place_other k n (omega arith) in let w = q.bytes k v in let a = occurrences_more k n l in omega arith
 
   -- there is room for it
-  pub room_left : noted.count < 256
+  pub room_left : array_vec_len noted.names < 256
   room_left =
       let m = few 256 (l ++ (n ∷ [])) bytes_more once_more in
       let a = length-append l (n ∷ []) in
-      let c = q.counted in
+      let c = ap length q.names in
       omega arith
 
-  pub noted_new : Notes (record { seen = set noted.seen n true; names = set noted.names noted.count n; count = noted.count + 1 }) (noted_with n l)
-  noted_new = rw new
+  pub noted_new : (names : ArrayVec ℕ) → names.items ≡ noted.names.items ++ (n ∷ [])
+      → Notes (record { seen = set noted.seen n true; names = names }) (noted_with n l)
+  noted_new names e = rw new
       (record {
         flags = length-set noted.seen n true ∙ q.flags;
-        buffer = length-set noted.names noted.count n ∙ q.buffer;
         seen = flag;
-        names =
-            rw add-one (take-suc-set noted.names noted.count n (let r = room_left in let w = q.buffer in omega arith)
-            ∙ ap (λ (v : List ℕ). v ++ (n ∷ [])) q.names);
-        counted = let a = length-append l (n ∷ []) in let c = q.counted in omega arith;
+        names = e ∙ ap (λ (v : List ℕ). v ++ (n ∷ [])) q.names;
         bytes = bytes_more;
         once = once_more;
       })
@@ -107,18 +102,12 @@ module _ {noted : NotedNames} {n : ℕ} {l : List ℕ} (b : n < 256) (f : get_or
           (λ (ne : k ≢ n). get_or-set_other noted.seen n k true false ne ∙ q.seen k v ∙ sym (among_other k n l ne))
           (cases_eq k n)
 
--- no more than all bytes are noted
-pub noted_few : {noted : NotedNames} {l : List ℕ} → Notes noted l → length l ≤ 256
-noted_few {noted} {l} q = few 256 l q.bytes q.once
-
 -- nothing is noted at first
-pub none_noted : Notes (record { seen = replicate 256 false; names = replicate 256 0; count = 0 }) []
-none_noted = record {
+pub none_noted : (names : ArrayVec ℕ) → names.items ≡ [] → Notes (record { seen = replicate 256 false; names = names }) []
+none_noted names e = record {
   flags = length-replicate 256 false;
-  buffer = length-replicate {A = ℕ} 256 0;
   seen = λ n b. get_or-replicate 256 n false false b;
-  names = refl;
-  counted = refl;
+  names = e;
   bytes = λ k b. refl;
   once = λ k. omega arith;
 }

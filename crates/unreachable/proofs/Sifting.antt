@@ -3,16 +3,25 @@ use Rattle.std.proofs.Common.{◌≡◌, ℕ, ◌+◌, Bool, true, false, cond, 
 use Rattle.pool.specs.Chain.{nowhere}
 use Rattle.script.specs.Sound.{count_stmts}
 use Rattle.script.specs.Tree.{Stmt, Stmts, no_stmts, stmt_then}
+use Rattle.records.specs.declared.record.DeclRecord.{DeclRecord}
+use Rattle.records.specs.declared.record.ExprRecord.{ExprRecord}
 use Rattle.records.specs.declared.record.Pools.{Pools}
+use Rattle.records.specs.declared.record.StmtRecord.{StmtRecord}
 use Rattle.records.specs.Embedding.{stmt_row, stmts_row}
 use Rattle.records.specs.Heap.{Heap, Place, stmt_at}
 use Rattle.records.specs.Owned.{Owns, Root}
+use Rattle.records.specs.Readable.{tables}
 use Rattle.records.specs.Rows.{Row, end}
-use Rattle.records.proofs.Moves.{end_in, end_out, pick}
+use Rattle.records.proofs.Moves.{end_out}
 use Rattle.rules.specs.Statements.{push_all, statement_cares_about_scope}
 use Rattle.rules.specs.Unreachable.{lexical_declarations}
 use Rattle.moves.specs.Moved.{Moved, Turns}
-use Rattle.moves.proofs.Frames.{regroup, stays, then_move}
+use Rattle.moves.proofs.Frames.{regroup, then_move}
+
+-- what is owned in tables is owned in others that are the same
+pub in_same : {h : Heap} {p : Pools} {loose : List Place} {roots : List Root} {es es' : List ExprRecord} {ss ss' : List StmtRecord} {ds ds' : List DeclRecord}
+    → es' ≡ es → ss' ≡ ss → ds' ≡ ds → Moved h (tables es ss ds) p loose roots → Moved h (tables es' ss' ds') p loose roots
+in_same e f g m = rw (e, f, g) m
 
 -- a let or const is linked before the results
 pub sift_keeps : {h h₁ : Heap} {p : Pools} {loose : List Place} {others : List Root} {at rest : ℕ} (x : Stmt) (w : Row) (r : Stmts)
@@ -24,14 +33,14 @@ sift_keeps x w r e m = rw e m
 module _ {h h₁ h₂ : Heap} {p p₂ : Pools} {loose : List Place} {others : List Root} {at results rest : ℕ} where
   -- another statement is cut off its row and given back
   pub sift_drops : (x : Stmt) (w : Row) (r : Stmts) → statement_cares_about_scope x ≡ false
-      → Turns h p h₁ p [] ((stmt_at at, stmt_row x w) ∷ (stmt_at nowhere, end) ∷ []) ((stmt_at rest, w) ∷ (stmt_at at, stmt_row x end) ∷ [])
+      → Turns h p h₁ p [] ((stmt_at at, stmt_row x w) ∷ []) ((stmt_at at, stmt_row x end) ∷ (stmt_at rest, w) ∷ [])
       → Turns h₁ p h₂ p₂ [] ((stmt_at at, stmt_row x end) ∷ []) []
       → Owns h p loose ((stmt_at at, stmt_row x w) ∷ (stmt_at results, stmts_row r) ∷ others)
       → Moved h h₂ p₂ loose ((stmt_at rest, w) ∷ (stmt_at results, stmts_row (cond (statement_cares_about_scope x) (stmt_then x r) r)) ∷ others)
   sift_drops x w r e cuts drops o =
       rw e
-      (then_move (cuts loose ((stmt_at results, stmts_row r) ∷ others) (pick 1 (end_in (stmt_at nowhere) refl o)))
-      (λ q. drops loose ((stmt_at rest, w) ∷ (stmt_at results, stmts_row r) ∷ others) (pick 1 q)))
+      (then_move (cuts loose ((stmt_at results, stmts_row r) ∷ others) o)
+      (λ q. drops loose ((stmt_at rest, w) ∷ (stmt_at results, stmts_row r) ∷ others) q))
 
 -- n of the statements are sifted
 pub record HalfSifted (h h' : Heap) (p' : Pools) (loose : List Place) (others : List Root) (xs r : Stmts) (pushed at n : ℕ) : Type 0 where
@@ -45,9 +54,6 @@ abbrev pub Sifting : Heap → Heap → Pools → Pools → ℕ → ℕ → ℕ �
 Sifting h h' p p' row results pushed at n =
     (xs r : Stmts) (loose : List Place) (others : List Root) → Owns h p loose ((stmt_at row, stmts_row xs) ∷ (stmt_at results, stmts_row r) ∷ others)
     → HalfSifted h h' p' loose others xs r pushed at n
-
-pub none_sifted : (h : Heap) (p : Pools) (row results : ℕ) → Sifting h h p p row results results row 0
-none_sifted h p row results xs r loose others o = record { done = r; left = xs; moved = stays o; same = refl; counted = omega arith }
 
 pub sifted_first : (x : Stmt) (xs r : Stmts)
     → push_all (lexical_declarations xs) (cond (statement_cares_about_scope x) (stmt_then x r) r) ≡ push_all (lexical_declarations (stmt_then x xs)) r

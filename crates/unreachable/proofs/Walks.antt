@@ -11,7 +11,8 @@ use Rattle.records.specs.Readable.{tables}
 use Rattle.records.specs.Rows.{At, Row, end, node, row_length}
 use Rattle.rules.specs.Unreachable.{note_hoisted_names}
 use Rattle.unreachable.specs.declared.noting.NotedNames.{NotedNames}
-use Rattle.unreachable.specs.Noted.{Notes, Noting, declarators_in, label_name, names_of_row, noted_with, statements_in, vars_of_kind, vars_of_label, vars_of_row}
+use Rattle.unreachable.specs.Noted.{Notes, Noting, declarators_in, label_name, names_of_row, noted_with, statements_in, vars_of_kind, vars_of_label}
+use Rattle.unreachable.specs.Noted.{vars_of_row}
 
 pub note_both : (xs ys l : List ℕ) → note_hoisted_names (xs ++ ys) l ≡ note_hoisted_names ys (note_hoisted_names xs l)
 note_both [] ys l = refl
@@ -19,15 +20,6 @@ note_both (x ∷ xs) ys l = note_both xs ys (noted_with x l)
 
 pub noting_both : (a b c : NotedNames) (xs ys : List ℕ) → Noting a b xs → Noting b c ys → Noting a c (xs ++ ys)
 noting_both a b c xs ys f g l q = rw (note_both xs ys l) (g (note_hoisted_names xs l) (f l q))
-
--- nothing is behind nowhere
-pub no_decls_nowhere : (h : Heap) (i : ℕ) (z : Row) → Short h → i ≡ nowhere → At h (decl_at i) z → z ≡ end
-no_decls_nowhere h i end s e a = refl
-no_decls_nowhere h i (node l x y z w) s e a = let v = a.0 in let u = s.decls in absurd (omega arith)
-
-pub no_stmts_nowhere : (h : Heap) (i : ℕ) (r : Row) → Short h → i ≡ nowhere → At h (stmt_at i) r → r ≡ end
-no_stmts_nowhere h i end s e a = refl
-no_stmts_nowhere h i (node l x y z w) s e a = let v = a.0 in let u = s.stmts in absurd (omega arith)
 
 -- n declarators of a row are passed, and their names are noted
 pub record PastDecls (h : Heap) (at : ℕ) (before after : NotedNames) (n : ℕ) (z : Row) : Type 0 where
@@ -42,10 +34,6 @@ abbrev pub AlongDecls : List DeclRecord → ℕ → ℕ → NotedNames → Noted
 AlongDecls decls row at before after n =
     (es : List ExprRecord) (ss : List StmtRecord) (z : Row) → Short (tables es ss decls) → At (tables es ss decls) (decl_at row) z
     → PastDecls (tables es ss decls) at before after n z
-
-pub decls_start : (decls : List DeclRecord) (row : ℕ) (noted : NotedNames) → AlongDecls decls row row noted noted 0
-decls_start decls row noted es ss z s a =
-    record { rest = z; passed = []; here = a; noting = λ l q. q; names = refl; counted = omega arith }
 
 pub decls_again : (decls : List DeclRecord) (row at : ℕ) (before mid after : NotedNames) (n : ℕ) → at ≢ nowhere → AlongDecls decls row at before mid n
     → ((l : List ℕ) → Notes mid l → Notes after (noted_with (get_or decls at blank_decl).name l))
@@ -95,14 +83,11 @@ AlongStmts stmts decls row at before after most n =
     → declarators_in r ≤ length decls
     → PastStmts (tables es stmts decls) at before after n r
 
-pub stmts_start : (stmts : List StmtRecord) (decls : List DeclRecord) (row most : ℕ) (noted : NotedNames) → AlongStmts stmts decls row row noted noted most 0
-stmts_start stmts decls row most noted es r s a m d =
-    record { rest = r; passed = []; here = a; noting = λ l q. q; names = refl; counted = omega arith; few = omega arith }
-
 -- the statement's own names, and those of its parts, are noted
 pub stmts_again : (stmts : List StmtRecord) (decls : List DeclRecord) (row at : ℕ) (before mid own after : NotedNames) (most n : ℕ) → n < most → at ≢ nowhere
     → AlongStmts stmts decls row at before mid most n
-    → ((es : List ExprRecord) (ss : List StmtRecord) (z : Row) → Short (tables es ss decls) → At (tables es ss decls) (decl_at (get_or stmts at blank_stmt).decls) z
+    → ((es : List ExprRecord) (ss : List StmtRecord) (z : Row) → Short (tables es ss decls)
+    → At (tables es ss decls) (decl_at (get_or stmts at blank_stmt).decls) z
     → row_length z ≤ length decls → Noting mid own (vars_of_kind (get_or stmts at blank_stmt).kind z))
     → ((es : List ExprRecord) (r : Row) → Short (tables es stmts decls) → At (tables es stmts decls) (stmt_at (get_or stmts at blank_stmt).stmts) r
     → statements_in r ≤ most - 1 → declarators_in r ≤ length decls → Noting own after (vars_of_row r))

@@ -1,5 +1,5 @@
--- Names that are noted, each once: flags by name, and a buffer with the names in their order.
-use Rattle.std.specs.Prelude.{◌≡◌, ℕ, suc, ◌+◌, ◌<◌, ◌≤◌, false, cond, List, [], ◌∷◌, ◌++◌, length, take, slice_index_or}
+-- Names that are noted, each once: flags by name, and the names in their order.
+use Rattle.std.specs.Prelude.{◌≡◌, ℕ, suc, ◌+◌, ◌<◌, ◌≤◌, false, cond, List, [], ◌∷◌, ◌++◌, length, slice_index_or}
 use Rattle.pool.specs.Chain.{occurrences}
 use Rattle.script.specs.declared.DeclarationKind.{DeclarationKind}
 use Rattle.script.specs.declared.DeclarationKind.TheVariants.{Const, Let, Var}
@@ -18,10 +18,8 @@ noted_with n l = cond (among n l) l (l ++ (n ∷ []))
 -- these names are noted
 pub record Notes (noted : NotedNames) (l : List ℕ) : Type 0 where
   pub flags : length noted.seen ≡ 256
-  pub buffer : length noted.names ≡ 256
   pub seen : (n : ℕ) → n < 256 → slice_index_or noted.seen n false ≡ among n l
-  pub names : take noted.count noted.names ≡ l
-  pub counted : noted.count ≡ length l
+  pub names : noted.names.items ≡ l
   pub bytes : (k : ℕ) → 256 ≤ k → occurrences k l ≡ 0
   pub once : (k : ℕ) → occurrences k l ≤ 1
 

@@ -1,4 +1,5 @@
 // A jump at the end of a list.
+// A routine is lent the tables that it works on and no others: those are known to stay with no clause.
 ghost use Rattle.std.specs.Prelude.{List, [], ◌∷◌};
 ghost use Rattle.script.specs.Tree.{Stmts};
 ghost use Rattle.records.specs.declared.record.DeclRecord.{DeclRecord as DeclEntry};
@@ -10,7 +11,7 @@ ghost use Rattle.rules.specs.Jumps.{drop_last_jump};
 ghost use Rattle.moves.specs.Moved.{Turns};
 ghost use Rattle.predicates.specs.Held.{holder_of};
 
-use moves::{give, stmt_at};
+use moves::{give, record_at};
 use pool::NOWHERE;
 use predicates::{Holder, can_remove_termination_statement};
 use records::{Pools, StmtRecord};
@@ -26,13 +27,10 @@ pub fn drop_last_jump(
         Turns (tables es stmts.old ds) pools.old (tables es stmts.new ds) pools.new
         [] ((stmt_at results, stmts_row rs) ∷ []) ((stmt_at result, stmts_row (drop_last_jump (holder_of holder) rs)) ∷ []) }
 {
-    if results == NOWHERE {
+    if results == NOWHERE || !can_remove_termination_statement(holder, stmts, results) {
         return results;
     }
-    if !can_remove_termination_statement(holder, stmts, results) {
-        return results;
-    }
-    let rest = stmt_at(stmts, results).next;
+    let rest = record_at(stmts, results).next;
     give(&mut pools.stmts, stmts, results);
     rest
 }

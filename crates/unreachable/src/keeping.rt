@@ -1,4 +1,5 @@
 // What is kept of the statements behind a jump.
+// A routine is lent the tables that it works on and no others: those are known to stay with no clause.
 ghost use Rattle.std.specs.Prelude.{ℕ, ◌≤◌, List, [], ◌∷◌, length, if◌then◌else◌};
 ghost use Rattle.script.specs.Tree.{Declarators, Stmt, Stmts, absent, declarator_then, stmt_then};
 ghost use Rattle.records.specs.declared.record.ExprRecord.{ExprRecord as ExprEntry};
@@ -9,12 +10,12 @@ ghost use Rattle.records.specs.Readable.{tables};
 ghost use Rattle.records.specs.Rows.{Row};
 ghost use Rattle.rules.specs.Statements.{push_all, statement_cares_about_scope};
 ghost use Rattle.rules.specs.Unreachable.{bare_declarators, keep_declarations, lexical_declarations, push_kept_vars};
+ghost use Rattle.moves.specs.Lent.{Makes, SameSlices};
 ghost use Rattle.moves.specs.Moved.{Turns};
 ghost use Rattle.unreachable.specs.Noted.{Notes};
 
-use crate::noting::{NotedNames, note_vars};
-use crate::order::relink_stmt;
-use moves::{drop_stmt_row, set, take};
+use crate::noting::{NotedNames, noted_names};
+use moves::{Tables, detach, drop_stmt_row, relink, set, take};
 use pool::NOWHERE;
 use predicates::statement_cares_about_scope;
 use records::{DeclRecord, ExprRecord, Pools, StmtRecord};
@@ -28,51 +29,35 @@ struct Sifted {
 }
 
 // Puts the first statement onto the results if it is a let or a const, else gives it back.
-fn sift_stmt(
-    exprs: &mut [ExprRecord],
-    stmts: &mut [StmtRecord],
-    decls: &mut [DeclRecord],
-    pools: &mut Pools,
-    at: u32,
-    results: u32,
-) -> Sifted
-    ensures { (x : Stmt) (w : Row) (r : Stmts) →
-        Turns (tables exprs.old stmts.old decls.old) pools.old
-        (tables exprs.new stmts.new decls.new) pools.new
+fn sift_stmt(tables: &mut Tables, at: u32, results: u32) -> Sifted
+    ensures lent { SameSlices tables.old tables.new }
+    ensures makes { (x : Stmt) (w : Row) (r : Stmts) → Makes tables.old tables.new
         [] ((stmt_at at, stmt_row x w) ∷ (stmt_at results, stmts_row r) ∷ [])
         ((stmt_at result.rest, w) ∷ (stmt_at result.results, stmts_row (if statement_cares_about_scope x then stmt_then x r else r)) ∷ []) }
 {
-    if statement_cares_about_scope(stmts, at) {
-        let rest = relink_stmt(stmts, at, results);
+    if statement_cares_about_scope(tables.stmts(), at) {
+        let rest = relink(tables.stmts, at, results);
         return Sifted { results: at, rest };
     }
-    let rest = relink_stmt(stmts, at, NOWHERE);
-    drop_stmt_row(exprs, stmts, decls, pools, at);
+    let rest = detach(tables.stmts, at);
+    drop_stmt_row(tables, at);
     Sifted { results, rest }
 }
 
 // Puts every let and const of a row onto the results, and gives the other statements back.
-fn sift_row(
-    exprs: &mut [ExprRecord],
-    stmts: &mut [StmtRecord],
-    decls: &mut [DeclRecord],
-    pools: &mut Pools,
-    row: u32,
-    results: u32,
-) -> u32
-    ensures { (xs r : Stmts) →
-        Turns (tables exprs.old stmts.old decls.old) pools.old
-        (tables exprs.new stmts.new decls.new) pools.new
+fn sift_row(tables: &mut Tables, row: u32, results: u32) -> u32
+    ensures lent { SameSlices tables.old tables.new }
+    ensures makes { (xs r : Stmts) → Makes tables.old tables.new
         [] ((stmt_at row, stmts_row xs) ∷ (stmt_at results, stmts_row r) ∷ [])
         ((stmt_at result, stmts_row (push_all (lexical_declarations xs) r)) ∷ []) }
 {
     let mut pushed = results;
     let mut at = row;
-    for _i in 0..stmts.len() {
+    for _i in 0..tables.stmts.len() {
         if at == NOWHERE {
             return pushed;
         }
-        let sifted = sift_stmt(exprs, stmts, decls, pools, at, pushed);
+        let sifted = sift_stmt(tables, at, pushed);
         pushed = sifted.results;
         at = sifted.rest;
     }
@@ -105,11 +90,8 @@ fn bare_row(decls: &mut [DeclRecord], pools: &mut Pools, noted: &NotedNames) -> 
         [] [] ((decl_at result, declarators_row (bare_declarators l)) ∷ []) }
 {
     let mut row = NOWHERE;
-    let mut left = noted.count;
-    // There are no more than 256 names.
-    while left > 0 && left <= 256 {
-        left -= 1;
-        row = push_bare_declarator(decls, pools, noted.names[left], row);
+    for name in noted.names.iter().rev() {
+        row = push_bare_declarator(decls, pools, *name, row);
     }
     row
 }
@@ -127,7 +109,7 @@ fn push_noted(
         Turns (tables es stmts.old decls.old) pools.old (tables es stmts.new decls.new) pools.new
         [] ((stmt_at results, stmts_row r) ∷ []) ((stmt_at result, stmts_row (push_kept_vars l r)) ∷ []) }
 {
-    if noted.count == 0 {
+    if noted.names.is_empty() {
         return results;
     }
     let names = bare_row(decls, pools, noted);
@@ -147,26 +129,13 @@ fn push_noted(
 }
 
 // Behind a jump: let and const stay, of `var` declarations at any depth the names, and all else is given back.
-pub fn keep_declarations(
-    exprs: &mut [ExprRecord],
-    stmts: &mut [StmtRecord],
-    decls: &mut [DeclRecord],
-    pools: &mut Pools,
-    rest: u32,
-    results: u32,
-) -> u32
-    ensures { (xs r : Stmts) →
-        Turns (tables exprs.old stmts.old decls.old) pools.old
-        (tables exprs.new stmts.new decls.new) pools.new
+pub fn keep_declarations(tables: &mut Tables, rest: u32, results: u32) -> u32
+    ensures lent { SameSlices tables.old tables.new }
+    ensures makes { (xs r : Stmts) → Makes tables.old tables.new
         [] ((stmt_at rest, stmts_row xs) ∷ (stmt_at results, stmts_row r) ∷ [])
         ((stmt_at result, stmts_row (keep_declarations xs r)) ∷ []) }
 {
-    let mut noted = NotedNames {
-        seen: [false; 256],
-        names: [0; 256],
-        count: 0,
-    };
-    note_vars(stmts.len(), stmts, decls, rest, &mut noted);
-    let kept = sift_row(exprs, stmts, decls, pools, rest, results);
-    push_noted(stmts, decls, pools, &noted, kept)
+    let noted = noted_names(tables, rest);
+    let kept = sift_row(tables, rest, results);
+    push_noted(tables.stmts, tables.decls, &mut tables.pools, &noted, kept)
 }

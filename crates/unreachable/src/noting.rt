@@ -1,24 +1,30 @@
 // The names that dead statements declare by `var`, each once, the first met first.
-ghost use Rattle.std.specs.Prelude.{ℕ, ◌≤◌, List, length};
+// A routine is lent the tables that it works on and no others: those are known to stay with no clause.
+ghost use Rattle.std.specs.Prelude.{ℕ, ◌≤◌, List, [], ◌∷◌, length};
+ghost use Rattle.script.specs.Tree.{Stmts};
 ghost use Rattle.records.specs.declared.record.ExprRecord.{ExprRecord as ExprEntry};
 ghost use Rattle.records.specs.declared.record.StmtRecord.{StmtRecord as StmtEntry};
-ghost use Rattle.records.specs.Heap.{decl_at, stmt_at};
-ghost use Rattle.records.specs.Owned.{Short};
+ghost use Rattle.records.specs.Embedding.{stmts_row};
+ghost use Rattle.records.specs.Heap.{Place, decl_at, stmt_at};
+ghost use Rattle.records.specs.Owned.{Owns, Root, Short};
 ghost use Rattle.records.specs.Readable.{tables};
 ghost use Rattle.records.specs.Rows.{At, Row, row_length};
+ghost use Rattle.run.specs.Names.{var_declared_list};
+ghost use Rattle.rules.specs.Unreachable.{note_hoisted_names};
+ghost use Rattle.moves.specs.Lent.{heap};
 ghost use Rattle.unreachable.specs.Noted.{Notes, Noting, declarators_in, names_of_row, noted_with, statements_in, vars_of_kind, vars_of_row};
 
-use moves::{decl_at, stmt_at};
+use arrayvec::ArrayVec;
+use moves::{Tables, record_at};
 use pool::NOWHERE;
 use records::{DeclRecord, StmtRecord};
 use script::{DeclarationKind, StatementKind};
 
-// Which names were met, and the first `count` of `names` in the order in which they were met.
+// Which names were met, and the names in the order in which they were met.
 #[derive(Drop)]
 pub struct NotedNames {
     pub seen: [bool; 256],
-    pub names: [u8; 256],
-    pub count: usize,
+    pub names: ArrayVec<u8, 256>,
 }
 
 // Notes a name that was not met before.
@@ -28,13 +34,9 @@ fn note_name(noted: &mut NotedNames, name: u8)
     if noted.seen[name as usize] {
         return;
     }
-    // There are no more than 256 names.
-    if noted.count >= 256 {
-        return;
-    }
     noted.seen[name as usize] = true;
-    noted.names[noted.count] = name;
-    noted.count += 1;
+    // There is room: no more than 256 names are met.
+    let _ = noted.names.try_push(name);
 }
 
 // Notes the names of a row of declarators.
@@ -48,7 +50,7 @@ fn note_declarators(decls: &[DeclRecord], row: u32, noted: &mut NotedNames)
         if at == NOWHERE {
             return;
         }
-        let decl = decl_at(decls, at);
+        let decl = record_at(decls, at);
         note_name(noted, decl.name);
         at = decl.next;
     }
@@ -66,7 +68,7 @@ fn note_declaration(decls: &[DeclRecord], kind: StatementKind, row: u32, noted: 
 }
 
 // Notes the names that a row of statements or cases declares by `var`, at any depth. `most` is at least the number of its records.
-pub fn note_vars(
+fn note_vars(
     most: usize,
     stmts: &[StmtRecord],
     decls: &[DeclRecord],
@@ -82,9 +84,24 @@ pub fn note_vars(
         if at == NOWHERE {
             return;
         }
-        let stmt = stmt_at(stmts, at);
+        let stmt = record_at(stmts, at);
         note_declaration(decls, stmt.kind, stmt.decls, noted);
         note_vars(most - 1, stmts, decls, stmt.stmts, noted);
         at = stmt.next;
     }
+}
+
+// The names that a row of statements declares by `var`, at any depth.
+pub fn noted_names(tables: &Tables, row: u32) -> NotedNames
+    ensures { (loose : List Place) (xs : Stmts) (rest : List Root) →
+        Owns (heap tables.now) tables.now.pools loose ((stmt_at row, stmts_row xs) ∷ rest) →
+        Notes result (note_hoisted_names (var_declared_list xs) []) }
+{
+    let mut noted = NotedNames {
+        seen: [false; 256],
+        names: ArrayVec::new(),
+    };
+    let most = tables.stmts.len();
+    note_vars(most, tables.stmts, tables.decls, row, &mut noted);
+    noted
 }

@@ -1,27 +1,24 @@
 -- How long the bytes of a row are, and where placed bytes stand.
-use Rattle.std.proofs.Common.{◌≡◌, ℕ, suc, ◌+◌, ◌*◌, ◌≤◌, List, [], ◌∷◌, ◌++◌, length, drop, set, refl, ap, ◌∙◌, append_assoc, arith, length-append}
-use Rattle.writing.specs.declared.bytes.Spelling.{Spelling}
-use Rattle.writing.specs.declared.bytes.Spelling.TheVariants.{One, Two, Three, Four, Five}
-use Rattle.writing.specs.declared.bytes.Order.{Order}
-use Rattle.writing.specs.declared.bytes.Order.TheVariants.{ExprsFirst, StmtsFirst, StmtFirst}
+use Rattle.std.proofs.Common.{◌≡◌, ℕ, suc, ◌+◌, ◌*◌, ◌≤◌, List, [], ◌∷◌, ◌++◌, length, drop, set, refl, ap, ◌∙◌, append_assoc, arith, rules, length-append}
+use Rattle.script.specs.declared.ExpressionKind.{ExpressionKind}
+use Rattle.script.specs.declared.StatementKind.{StatementKind}
 use Rattle.records.specs.Heap.{expr_label, stmt_label, decl_label}
 use Rattle.records.specs.Rows.{Row, end, node, size, row_length}
-use Rattle.writing.specs.Bytes.{spelled, expr_spelling, decl_spelling, stmt_spelling, body_spelling, exprs_row_bytes, decls_row_bytes, order, in_order, first_bytes, others_bytes, body_row_bytes, behind, placed}
+use Rattle.writing.specs.Bytes.{Order, exprs_first, stmts_first, stmt_first, expr_spelling, decl_spelling, stmt_spelling, body_spelling}
+use Rattle.writing.specs.Bytes.{exprs_row_bytes, decls_row_bytes, order, in_order, first_bytes, others_bytes, body_row_bytes, behind, placed}
 
 -- each record writes five bytes at most
-spelled_most : (s : Spelling) (rest : List ℕ) → length (spelled s rest) ≤ 5 + length rest
-spelled_most (One a) rest = omega arith
-spelled_most (Two a b) rest = omega arith
-spelled_most (Three a b c) rest = omega arith
-spelled_most (Four a b c d) rest = omega arith
-spelled_most (Five a b c d e) rest = omega arith
+expr_most : (k : ExpressionKind) (n : ℕ) (rest : List ℕ) → length (expr_spelling k n rest) ≤ 5 + length rest
+expr_most k n rest = grind arith
+
+stmt_most : (k : StatementKind) (x y z : ℕ) (rest : List ℕ) → length (stmt_spelling k x y z rest) ≤ 5 + length rest
+stmt_most k x y z rest = search rules
 
 exprs_most : (r : Row) (rest : List ℕ) → length (exprs_row_bytes r rest) ≤ 5 * size r + length rest
 exprs_most end rest = omega arith
 exprs_most (node (expr_label k) x y z w) rest =
-    let s = expr_spelling k (row_length x) in
-    let a = exprs_most x (spelled s (exprs_row_bytes w rest)) in
-    let b = spelled_most s (exprs_row_bytes w rest) in
+    let a = exprs_most x (expr_spelling k (row_length x) (exprs_row_bytes w rest)) in
+    let b = expr_most k (row_length x) (exprs_row_bytes w rest) in
     let c = exprs_most w rest in
     omega arith
 exprs_most (node (stmt_label k) x y z w) rest = let c = exprs_most w rest in omega arith
@@ -32,9 +29,7 @@ decls_most end rest = omega arith
 decls_most (node (expr_label k) x y z w) rest = let c = decls_most w rest in omega arith
 decls_most (node (stmt_label k) x y z w) rest = let c = decls_most w rest in omega arith
 decls_most (node (decl_label n) x y z w) rest =
-    let s = decl_spelling n (row_length x) in
-    let a = exprs_most x (spelled s (decls_row_bytes w rest)) in
-    let b = spelled_most s (decls_row_bytes w rest) in
+    let a = exprs_most x (decl_spelling n (row_length x) (decls_row_bytes w rest)) in
     let c = decls_most w rest in
     omega arith
 
@@ -55,11 +50,11 @@ in_order_most : (o : Order) (e f g d : List ℕ → List ℕ) (a b c n : ℕ)
     → ((rest : List ℕ) → length (e rest) ≤ a + length rest) → ((rest : List ℕ) → length (f rest) ≤ b + length rest)
     → ((rest : List ℕ) → length (g rest) ≤ c + length rest) → ((rest : List ℕ) → length (d rest) ≤ n + length rest)
     → (rest : List ℕ) → length (in_order o e f g d rest) ≤ (a + (b + (c + n))) + length rest
-in_order_most ExprsFirst e f g d a b c n he hf hg hd rest =
+in_order_most exprs_first e f g d a b c n he hf hg hd rest =
     let p = he (d (f (g rest))) in let q = hd (f (g rest)) in let r = hf (g rest) in let s = hg rest in omega arith
-in_order_most StmtsFirst e f g d a b c n he hf hg hd rest =
+in_order_most stmts_first e f g d a b c n he hf hg hd rest =
     let p = hf (g (e rest)) in let q = hg (e rest) in let r = he rest in omega arith
-in_order_most StmtFirst e f g d a b c n he hf hg hd rest =
+in_order_most stmt_first e f g d a b c n he hf hg hd rest =
     let p = hf (e (g rest)) in let q = he (g rest) in let r = hg rest in omega arith
 
 mutual
@@ -67,9 +62,10 @@ mutual
   first_most end rest = omega arith
   first_most (node (expr_label k) x y z w) rest = omega arith
   first_most (node (stmt_label k) x y z w) rest =
-      let s = stmt_spelling k (row_length x) (row_length y) (row_length z) in
-      let a = in_order_most (order k) (exprs_row_bytes x) (first_bytes y) (others_bytes y) (decls_row_bytes z) (5 * size x) (5 * first_size y) (5 * others_size y) (5 * size z) (exprs_most x) (first_most y) (others_most y) (decls_most z) (spelled s rest) in
-      let b = spelled_most s rest in
+      let tail = stmt_spelling k (row_length x) (row_length y) (row_length z) rest in
+      let e = exprs_most x in let f = first_most y in let g = others_most y in let d = decls_most z in
+      let a = in_order_most (order k) _ _ _ _ (5 * size x) (5 * first_size y) (5 * others_size y) (5 * size z) e f g d tail in
+      let b = stmt_most k (row_length x) (row_length y) (row_length z) rest in
       let c = both_sizes y in
       omega arith
   first_most (node (decl_label n) x y z w) rest = omega arith
@@ -81,7 +77,7 @@ mutual
 
 pub body_most : (r : Row) → length (body_row_bytes r) ≤ 5 * size r + 4
 body_most r =
-    let tail = spelled (body_spelling (row_length r)) [] in
+    let tail = body_spelling (row_length r) [] in
     let a = first_most r (others_bytes r tail) in let b = others_most r tail in let c = both_sizes r in omega arith
 
 -- no output: the place behind the bytes tells how many there are

@@ -9,13 +9,14 @@ use Rattle.script.specs.Tree.{Stmts, no_stmts, stmt_then, Cases, no_cases, case_
 use Rattle.script.specs.Sound.{count_exprs, count_declarators, count_stmts, count_cases}
 use Rattle.script.specs.Sound.{SoundExpr, SoundExprs, SoundOptional, SoundDeclarators, SoundDeclaration, SoundInit}
 use Rattle.script.specs.Sound.{SoundStmt, SoundAlternate, SoundStmts, SoundCases}
-use Rattle.script.specs.Written.{operator_byte, expr_bytes, exprs_bytes, optional_bytes, either_code, flag, declarators_bytes, declaration_bytes, init_bytes, init_flag, if_code, kind_byte}
+use Rattle.script.specs.Written.{operator_byte, expr_bytes, exprs_bytes, optional_bytes, either_code, flag, declarators_bytes, declaration_bytes}
+use Rattle.script.specs.Written.{init_bytes, init_flag, if_code, kind_byte, init_byte, head_byte}
 use Rattle.script.specs.Written.{stmt_bytes, alternate_bytes, stmts_bytes, cases_bytes, body_bytes}
 use Rattle.records.specs.Rows.{Row, end, row_length}
-use Rattle.records.specs.Embedding.{expr_row, exprs_row, optional_row, declarators_row, declaration_row, init_kind, is_present, for_head, init_exprs, init_stmts}
+use Rattle.records.specs.Embedding.{expr_row, exprs_row, optional_row, declarators_row, declaration_row, init_kind, is_present, for_head, init_exprs}
+use Rattle.records.specs.Embedding.{init_stmts}
 use Rattle.records.specs.Embedding.{stmt_row, alternate_row, stmts_row, cases_row}
-use Rattle.records.specs.Flags.{one_if as one_if}
-use Rattle.writing.specs.Bytes.{exprs_row_bytes, decls_row_bytes, first_bytes, others_bytes, stmts_row_bytes, body_row_bytes, init_order, in_order, init_bits, head_bits}
+use Rattle.writing.specs.Bytes.{exprs_row_bytes, decls_row_bytes, first_bytes, others_bytes, stmts_row_bytes, body_row_bytes, init_order, in_order}
 use Rattle.records.proofs.RowLengths.{expr_row_length, stmt_row_length}
 
 exprs_length : (es : Exprs) → row_length (exprs_row es) ≡ count_exprs es
@@ -69,7 +70,8 @@ mutual
   exprs_is no_exprs s rest = refl
   exprs_is (expr_then e es) s rest = expr_is e s.0 (exprs_row es) rest ∙ ap (expr_bytes e) (exprs_is es s.1 rest)
 
-optional_is : (v : OptionalExpr) → SoundOptional v → (w : Row) (rest : List ℕ) → exprs_row_bytes (optional_row v w) rest ≡ optional_bytes v (exprs_row_bytes w rest)
+optional_is : (v : OptionalExpr) → SoundOptional v → (w : Row) (rest : List ℕ)
+    → exprs_row_bytes (optional_row v w) rest ≡ optional_bytes v (exprs_row_bytes w rest)
 optional_is absent s w rest = refl
 optional_is (present e) s w rest = expr_is e s w rest
 
@@ -87,30 +89,33 @@ declarators_is (declarator_then n v ds) s rest =
     ∙ ap (λ c. optional_bytes v (bs c (decls_row_bytes (declarators_row ds) rest))) (code_is v 0x10 0x11)
     ∙ ap (λ tail. optional_bytes v (bs (either_code v 0x10 0x11) tail)) (declarators_is ds s.1 rest)
 
-declaration_is : (k : DeclarationKind) (ds : Declarators) → SoundDeclaration k ds → (w : Row) (rest : List ℕ) → first_bytes (declaration_row k ds w) rest ≡ declaration_bytes k ds rest
+declaration_is : (k : DeclarationKind) (ds : Declarators) → SoundDeclaration k ds → (w : Row) (rest : List ℕ)
+    → first_bytes (declaration_row k ds w) rest ≡ declaration_bytes k ds rest
 declaration_is k ds s w rest =
     let bs : ℕ → List ℕ = λ n. 0x22 ∷ kind_byte k ∷ n % 256 ∷ n / 256 ∷ rest in
     declarators_is ds s.2 (bs (row_length (declarators_row ds))) ∙ ap (λ n. declarators_bytes ds (bs n)) (declarators_length ds)
 
 -- the head of a for
-init_bits_is : (i : Init) → init_bits (init_kind i) ≡ init_flag i
-init_bits_is no_init = refl
-init_bits_is (init_expression e) = refl
-init_bits_is (init_declaration k ds) = refl
+init_byte_is : (i : Init) → init_byte (init_kind i) ≡ init_flag i
+init_byte_is no_init = refl
+init_byte_is (init_expression e) = refl
+init_byte_is (init_declaration k ds) = refl
 
-flag_is : (v : OptionalExpr) (n : ℕ) → n * one_if (is_present v) ≡ flag v n
+flag_is : (v : OptionalExpr) (n : ℕ) → n * cond (is_present v) 1 0 ≡ flag v n
 flag_is absent n = omega arith
 flag_is (present e) n = omega arith
 
-head_is : (i : Init) (t u : OptionalExpr) → head_bits (for_head i t u) ≡ init_flag i + (flag t 4 + flag u 8)
-head_is i t u = let a = init_bits_is i in let b = flag_is t 4 in let c = flag_is u 8 in omega arith
+head_is : (i : Init) (t u : OptionalExpr) → head_byte (for_head i t u) ≡ init_flag i + (flag t 4 + flag u 8)
+head_is i t u = let a = init_byte_is i in let b = flag_is t 4 in let c = flag_is u 8 in omega arith
 
-optionals_is : (t u : OptionalExpr) → SoundOptional t → SoundOptional u → (rest : List ℕ) → exprs_row_bytes (optional_row t (optional_row u end)) rest ≡ optional_bytes t (optional_bytes u rest)
+optionals_is : (t u : OptionalExpr) → SoundOptional t → SoundOptional u → (rest : List ℕ)
+    → exprs_row_bytes (optional_row t (optional_row u end)) rest ≡ optional_bytes t (optional_bytes u rest)
 optionals_is t u s₁ s₂ rest = optional_is t s₁ (optional_row u end) rest ∙ ap (optional_bytes t) (optional_is u s₂ end rest)
 
 -- the parts of a for whose body is the row b
 for_is : (i : Init) (t u : OptionalExpr) → SoundInit i → SoundOptional t → SoundOptional u → (b : Row) (rest : List ℕ)
-    → in_order (init_order (init_kind i)) (exprs_row_bytes (init_exprs i (optional_row t (optional_row u end)))) (first_bytes (init_stmts i b)) (others_bytes (init_stmts i b)) (decls_row_bytes end) rest
+    → in_order (init_order (init_kind i)) (exprs_row_bytes (init_exprs i (optional_row t (optional_row u end))))
+    (first_bytes (init_stmts i b)) (others_bytes (init_stmts i b)) (decls_row_bytes end) rest
     ≡ init_bytes i (optional_bytes t (optional_bytes u (stmts_row_bytes b rest)))
 for_is no_init t u s s₁ s₂ b rest = optionals_is t u s₁ s₂ (stmts_row_bytes b rest)
 for_is (init_expression e) t u s s₁ s₂ b rest =
@@ -170,9 +175,9 @@ mutual
       ∙ ap (stmt_bytes b) (expr_is t s.2 end (0x2a ∷ rest))
   first_is (for i t u b) s w rest =
       let bs : ℕ → List ℕ = λ n. 0x2b ∷ n ∷ rest in
-      for_is i t u s.0 s.1 s.2 (stmt_row b end) (bs (head_bits (for_head i t u)))
+      for_is i t u s.0 s.1 s.2 (stmt_row b end) (bs (head_byte (for_head i t u)))
       ∙ ap (λ v. init_bytes i (optional_bytes t (optional_bytes u v)))
-      (front_is b end (bs (head_bits (for_head i t u))) (first_is b s.4 end) ∙ ap (λ n. stmt_bytes b (bs n)) (head_is i t u))
+      (front_is b end (bs (head_byte (for_head i t u))) (first_is b s.4 end) ∙ ap (λ n. stmt_bytes b (bs n)) (head_is i t u))
   first_is (switch d cs) s w rest =
       let bs : ℕ → List ℕ = λ n. 0x30 ∷ n % 256 ∷ n / 256 ∷ rest in
       expr_is d s.0 end (stmts_row_bytes (cases_row cs) (bs (row_length (cases_row cs))))

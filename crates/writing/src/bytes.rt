@@ -1,45 +1,23 @@
 // The bytes of a body, written from the tables: parts before their command, in source order.
 // Bytes behind the end of the output are left out, so that writing into no output at all tells how many there are.
-ghost use Rattle.std.specs.Prelude.{◌≡◌, ◌≤◌, [], ◌∷◌, map, length, ◌≢◌};
+ghost use Rattle.std.specs.Prelude.{◌≡◌, ◌≤◌, ◌∷◌, ◌++◌, map, length, ◌≢◌};
 ghost use Rattle.pool.specs.Chain.{nowhere, Chain};
 ghost use Rattle.script.specs.Sound.{SoundStmts};
 ghost use Rattle.script.specs.Tree.{Stmts};
-ghost use Rattle.script.specs.Written.{word_byte, operator_byte, kind_byte, body_bytes};
+ghost use Rattle.script.specs.Written.{body_bytes};
 ghost use Rattle.records.specs.Heap.{expr_at, stmt_at, decl_at};
 ghost use Rattle.records.specs.Rows.{Row, At};
-ghost use Rattle.records.specs.Readable.{tables, Readable};
+ghost use Rattle.records.specs.Lent.{heap};
+ghost use Rattle.records.specs.Readable.{Readable};
 ghost use Rattle.records.specs.Embedding.{stmts_row};
-ghost use Rattle.writing.specs.Bytes.{spelled, expr_spelling, decl_spelling, head_bits, stmt_spelling, body_spelling, Puts, Countable};
-ghost use Rattle.writing.specs.Bytes.{order, first_bytes, stmts_row_bytes, parts_bytes, around_bytes, Commands, body_row_bytes, placed, WrittenOut};
+ghost use Rattle.writing.specs.Bytes.{expr_spelling, decl_spelling, stmt_spelling, body_spelling, Puts, Countable};
+ghost use Rattle.writing.specs.Bytes.{first_bytes, stmts_row_bytes, parts_bytes, command_bytes, around_bytes, body_row_bytes, placed, WrittenOut};
 ghost use Rattle.records.specs.Owned.{Limited};
 ghost use Rattle.writing.specs.Bytes.{exprs_row_bytes, first_expr_bytes, decls_row_bytes, first_decl_bytes, Writable, Writes};
 
 use pool::{Linked, NOWHERE};
-use records::{DeclRecord, ExprRecord, StmtRecord};
-use script::{
-    DeclarationKind, ExpressionKind, ForHead, ForInit, LogicalOperator, StatementKind, Word,
-};
-
-// A command with its operands.
-#[derive(Clone, Copy)]
-pub enum Spelling {
-    One(u8),
-    Two(u8, u8),
-    Three(u8, u8, u8),
-    Four(u8, u8, u8, u8),
-    Five(u8, u8, u8, u8, u8),
-}
-
-// In which order a statement writes its parts.
-#[derive(Clone, Copy)]
-pub enum Order {
-    // The expressions, the declarators, the statements.
-    ExprsFirst,
-    // The statements, the expressions.
-    StmtsFirst,
-    // The first statement, the expressions, the other statements.
-    StmtFirst,
-}
+use records::Lent;
+use script::{ExpressionKind, ForInit, StatementKind};
 
 // Puts one byte at a place; the answer is the place behind it.
 fn put(out: &mut [u8], at: usize, byte: u8) -> usize
@@ -51,33 +29,86 @@ fn put(out: &mut [u8], at: usize, byte: u8) -> usize
     at.saturating_add(1)
 }
 
-fn put_two(out: &mut [u8], at: usize, first: u8, second: u8) -> usize
-    ensures { Puts (λ rest. first ∷ second ∷ rest) out.old at out.new result }
+// Puts bytes from a place on; the answer is the place behind them.
+fn put_all(out: &mut [u8], at: usize, bytes: &[u8]) -> usize
+    ensures { Puts (λ rest. bytes.now ++ rest) out.old at out.new result }
 {
-    let end = put(out, at, first);
-    put(out, end, second)
+    let mut end = at;
+    for byte in bytes {
+        end = put(out, end, *byte);
+    }
+    end
 }
 
-fn put_spelling(out: &mut [u8], at: usize, spelling: Spelling) -> usize
-    ensures { Puts (spelled spelling) out.old at out.new result }
+// Puts the command of an expression with so many parts; one byte tells the parts of a call.
+fn put_expr(out: &mut [u8], at: usize, kind: ExpressionKind, parts: u16) -> usize
+    ensures { Puts (expr_spelling kind parts) out.old at out.new result }
 {
-    match spelling {
-        Spelling::One(a) => put(out, at, a),
-        Spelling::Two(a, b) => put_two(out, at, a, b),
-        Spelling::Three(a, b, c) => {
-            let end = put_two(out, at, a, b);
-            put(out, end, c)
+    let [low, high] = parts.to_le_bytes();
+    match kind {
+        ExpressionKind::Number(bits) => {
+            let [a, b, c, d] = bits.to_le_bytes();
+            put_all(out, at, &[0x01, a, b, c, d])
         }
-        Spelling::Four(a, b, c, d) => {
-            let end = put_two(out, at, a, b);
-            put_two(out, end, c, d)
-        }
-        Spelling::Five(a, b, c, d, e) => {
-            let end = put_two(out, at, a, b);
-            let end = put_two(out, end, c, d);
-            put(out, end, e)
-        }
+        ExpressionKind::Word(word) => put_all(out, at, &[0x02, u8::from(word)]),
+        ExpressionKind::Name(name) => put_all(out, at, &[0x03, name]),
+        ExpressionKind::Assignment(name) => put_all(out, at, &[0x04, name]),
+        ExpressionKind::Call(number) => put_all(out, at, &[0x05, number, low]),
+        ExpressionKind::Sequence => put_all(out, at, &[0x06, low, high]),
+        ExpressionKind::Conditional => put(out, at, 0x07),
+        ExpressionKind::Logical(operator) => put_all(out, at, &[0x08, u8::from(operator)]),
+        ExpressionKind::Not => put(out, at, 0x09),
+        ExpressionKind::Void => put(out, at, 0x0a),
+        ExpressionKind::StrictEquality => put(out, at, 0x0b),
     }
+}
+
+// Puts the command of a declarator whose value has so many expressions, one or none.
+fn put_decl(out: &mut [u8], at: usize, name: u8, values: u16) -> usize
+    ensures { Puts (decl_spelling name values) out.old at out.new result }
+{
+    put_all(out, at, &[if values == 0 { 0x10 } else { 0x11 }, name])
+}
+
+// Puts the command of a statement with so many expressions, statements and declarators.
+fn put_stmt(
+    out: &mut [u8],
+    at: usize,
+    kind: StatementKind,
+    exprs: u16,
+    stmts: u16,
+    decls: u16,
+) -> usize
+    ensures { Puts (stmt_spelling kind exprs stmts decls) out.old at out.new result }
+{
+    let [low, high] = stmts.to_le_bytes();
+    match kind {
+        StatementKind::Empty => put(out, at, 0x20),
+        StatementKind::Expression => put(out, at, 0x21),
+        StatementKind::Declaration(kind) => {
+            let [low, high] = decls.to_le_bytes();
+            put_all(out, at, &[0x22, u8::from(kind), low, high])
+        }
+        StatementKind::Return => put(out, at, if exprs == 0 { 0x23 } else { 0x24 }),
+        StatementKind::Throw => put(out, at, 0x25),
+        StatementKind::If => put(out, at, if stmts <= 1 { 0x26 } else { 0x27 }),
+        StatementKind::Block => put_all(out, at, &[0x28, low, high]),
+        StatementKind::While => put(out, at, 0x29),
+        StatementKind::DoWhile => put(out, at, 0x2a),
+        StatementKind::For(head) => put_all(out, at, &[0x2b, u8::from(head)]),
+        StatementKind::Switch => put_all(out, at, &[0x30, low, high]),
+        StatementKind::Case => put_all(out, at, &[0x2f, u8::from(exprs != 0), low, high]),
+        StatementKind::Break => put(out, at, 0x2d),
+        StatementKind::Continue => put(out, at, 0x2e),
+    }
+}
+
+// Puts the command of a body of so many statements.
+fn put_body(out: &mut [u8], at: usize, stmts: u16) -> usize
+    ensures { Puts (body_spelling stmts) out.old at out.new result }
+{
+    let [low, high] = stmts.to_le_bytes();
+    put_all(out, at, &[0x3f, 0, low, high])
 }
 
 // How many records a row has.
@@ -95,359 +126,168 @@ fn count<R: Linked>(table: &[R], row: u32) -> u16
     count
 }
 
-fn word_byte(word: Word) -> u8
-    ensures { result ≡ word_byte word }
-{
-    match word {
-        Word::False => 0,
-        Word::True => 1,
-        Word::Null => 2,
-    }
-}
-
-fn operator_byte(operator: LogicalOperator) -> u8
-    ensures { result ≡ operator_byte operator }
-{
-    match operator {
-        LogicalOperator::And => 0,
-        LogicalOperator::Or => 1,
-        LogicalOperator::Nullish => 2,
-    }
-}
-
-fn kind_byte(kind: DeclarationKind) -> u8
-    ensures { result ≡ kind_byte kind }
-{
-    match kind {
-        DeclarationKind::Var => 0,
-        DeclarationKind::Let => 1,
-        DeclarationKind::Const => 2,
-    }
-}
-
-fn head_bits(head: ForHead) -> u8
-    ensures { result ≡ head_bits head }
-{
-    let init = match head.init {
-        ForInit::Absent => 0,
-        ForInit::Expression => 1,
-        ForInit::Declaration => 2,
-    };
-    init + (4 * u8::from(head.test) + 8 * u8::from(head.update))
-}
-
-fn number_spelling(bits: u32) -> Spelling
-    ensures { result ≡ expr_spelling (ExpressionKind.Number bits) 0 }
-{
-    Spelling::Five(
-        0x01,
-        (bits % 256) as u8,
-        ((bits / 256) % 256) as u8,
-        ((bits / 65536) % 256) as u8,
-        (bits / 16777216) as u8,
-    )
-}
-
-// The command of an expression with so many parts.
-fn expr_spelling(kind: ExpressionKind, parts: u16) -> Spelling
-    ensures { result ≡ expr_spelling kind parts }
-{
-    match kind {
-        ExpressionKind::Number(bits) => number_spelling(bits),
-        ExpressionKind::Word(word) => Spelling::Two(0x02, word_byte(word)),
-        ExpressionKind::Name(name) => Spelling::Two(0x03, name),
-        ExpressionKind::Assignment(name) => Spelling::Two(0x04, name),
-        ExpressionKind::Call(number) => Spelling::Three(0x05, number, (parts % 256) as u8),
-        ExpressionKind::Sequence => Spelling::Three(0x06, (parts % 256) as u8, (parts / 256) as u8),
-        ExpressionKind::Conditional => Spelling::One(0x07),
-        ExpressionKind::Logical(operator) => Spelling::Two(0x08, operator_byte(operator)),
-        ExpressionKind::Not => Spelling::One(0x09),
-        ExpressionKind::Void => Spelling::One(0x0a),
-        ExpressionKind::StrictEquality => Spelling::One(0x0b),
-    }
-}
-
-// The command of a declarator whose value has so many expressions, one or none.
-fn decl_spelling(name: u8, values: u16) -> Spelling
-    ensures { result ≡ decl_spelling name values }
-{
-    Spelling::Two(if values == 0 { 0x10 } else { 0x11 }, name)
-}
-
-// The command of a statement with so many expressions, statements and declarators.
-fn stmt_spelling(kind: StatementKind, exprs: u16, stmts: u16, decls: u16) -> Spelling
-    ensures { result ≡ stmt_spelling kind exprs stmts decls }
-{
-    match kind {
-        StatementKind::Empty => Spelling::One(0x20),
-        StatementKind::Expression => Spelling::One(0x21),
-        StatementKind::Declaration(kind) => Spelling::Four(
-            0x22,
-            kind_byte(kind),
-            (decls % 256) as u8,
-            (decls / 256) as u8,
-        ),
-        StatementKind::Return => Spelling::One(if exprs == 0 { 0x23 } else { 0x24 }),
-        StatementKind::Throw => Spelling::One(0x25),
-        StatementKind::If => Spelling::One(if stmts <= 1 { 0x26 } else { 0x27 }),
-        StatementKind::Block => Spelling::Three(0x28, (stmts % 256) as u8, (stmts / 256) as u8),
-        StatementKind::While => Spelling::One(0x29),
-        StatementKind::DoWhile => Spelling::One(0x2a),
-        StatementKind::For(head) => Spelling::Two(0x2b, head_bits(head)),
-        StatementKind::Switch => Spelling::Three(0x30, (stmts % 256) as u8, (stmts / 256) as u8),
-        StatementKind::Case => Spelling::Four(
-            0x2f,
-            if exprs == 0 { 0 } else { 1 },
-            (stmts % 256) as u8,
-            (stmts / 256) as u8,
-        ),
-        StatementKind::Break => Spelling::One(0x2d),
-        StatementKind::Continue => Spelling::One(0x2e),
-    }
-}
-
-// The command of a body of so many statements.
-fn body_spelling(stmts: u16) -> Spelling
-    ensures { result ≡ body_spelling stmts }
-{
-    Spelling::Four(0x3f, 0, (stmts % 256) as u8, (stmts / 256) as u8)
-}
-
-// Writes a row of expressions.
+// Writes a row of expressions. Each table's rows have a loop of their own: one walk with a closure is no plainer,
+// since each closure has to require that its record is there and below the row, and the walk asks that of each call.
 #[cycle(write_expr_write_exprs)]
-fn write_exprs(exprs: &[ExprRecord], row: u32, out: &mut [u8], from: usize) -> usize
-    requires { Writable (tables exprs.now [] []) (expr_at row) }
-    ensures { Writes exprs_row_bytes (tables exprs.now [] []) (expr_at row) out.old from out.new result }
+fn write_exprs(tables: Lent, row: u32, out: &mut [u8], from: usize) -> usize
+    requires { Writable (heap tables) (expr_at row) }
+    ensures { Writes exprs_row_bytes (heap tables.entry) (expr_at row) out.old from out.new result }
 {
     let mut at = row;
     let mut end = from;
     while at != NOWHERE {
-        end = write_expr(exprs, at, out, end);
-        at = exprs[at as usize].next;
+        end = write_expr(tables, at, out, end);
+        at = tables.exprs[at as usize].next;
     }
     end
 }
 
 // Writes one expression: its parts, then its command.
 #[cycle(write_expr_write_exprs)]
-fn write_expr(exprs: &[ExprRecord], at: u32, out: &mut [u8], from: usize) -> usize
+fn write_expr(tables: Lent, at: u32, out: &mut [u8], from: usize) -> usize
     requires some { at ≢ nowhere }
-    requires writable { Writable (tables exprs.now [] []) (expr_at at) }
-    ensures { Writes first_expr_bytes (tables exprs.now [] []) (expr_at at) out.old from out.new result }
+    requires writable { Writable (heap tables) (expr_at at) }
+    ensures { Writes first_expr_bytes (heap tables.entry) (expr_at at) out.old from out.new result }
 {
-    let expr = exprs[at as usize];
-    let end = write_exprs(exprs, expr.first, out, from);
-    let parts = count(exprs, expr.first);
-    put_spelling(out, end, expr_spelling(expr.kind, parts))
+    let expr = tables.exprs[at as usize];
+    let end = write_exprs(tables, expr.first, out, from);
+    let parts = count(tables.exprs, expr.first);
+    put_expr(out, end, expr.kind, parts)
 }
 
 // Writes a row of declarators.
-fn write_decls(
-    exprs: &[ExprRecord],
-    decls: &[DeclRecord],
-    row: u32,
-    out: &mut [u8],
-    from: usize,
-) -> usize
-    requires { Writable (tables exprs.now [] decls.now) (decl_at row) }
-    ensures { Writes decls_row_bytes (tables exprs.now [] decls.now) (decl_at row) out.old from out.new result }
+fn write_decls(tables: Lent, row: u32, out: &mut [u8], from: usize) -> usize
+    requires { Writable (heap tables) (decl_at row) }
+    ensures { Writes decls_row_bytes (heap tables.entry) (decl_at row) out.old from out.new result }
 {
     let mut at = row;
     let mut end = from;
     while at != NOWHERE {
-        end = write_decl(exprs, decls, at, out, end);
-        at = decls[at as usize].next;
+        end = write_decl(tables, at, out, end);
+        at = tables.decls[at as usize].next;
     }
     end
 }
 
 // Writes one declarator: its value, if any, then its command.
-fn write_decl(
-    exprs: &[ExprRecord],
-    decls: &[DeclRecord],
-    at: u32,
-    out: &mut [u8],
-    from: usize,
-) -> usize
+fn write_decl(tables: Lent, at: u32, out: &mut [u8], from: usize) -> usize
     requires some { at ≢ nowhere }
-    requires writable { Writable (tables exprs.now [] decls.now) (decl_at at) }
-    ensures { Writes first_decl_bytes (tables exprs.now [] decls.now) (decl_at at) out.old from out.new result }
+    requires writable { Writable (heap tables) (decl_at at) }
+    ensures { Writes first_decl_bytes (heap tables.entry) (decl_at at) out.old from out.new result }
 {
-    let decl = decls[at as usize];
-    let end = write_exprs(exprs, decl.value, out, from);
-    let values = count(exprs, decl.value);
-    put_spelling(out, end, decl_spelling(decl.name, values))
-}
-
-// In which order a statement of this kind writes its parts.
-fn part_order(kind: StatementKind) -> Order
-    ensures { result ≡ order kind }
-{
-    match kind {
-        StatementKind::DoWhile => Order::StmtsFirst,
-        StatementKind::For(head) => match head.init {
-            ForInit::Absent | ForInit::Expression => Order::ExprsFirst,
-            ForInit::Declaration => Order::StmtFirst,
-        },
-        _ => Order::ExprsFirst,
-    }
-}
-
-// The command of a statement that is there.
-fn stmt_command(
-    exprs: &[ExprRecord],
-    stmts: &[StmtRecord],
-    decls: &[DeclRecord],
-    at: u32,
-) -> Spelling
-    requires some { at ≢ nowhere }
-    requires writable { Writable (tables exprs.now stmts.now decls.now) (stmt_at at) }
-    ensures { (row : Row) → At (tables exprs.now stmts.now decls.now) (stmt_at at) row → Commands result row }
-{
-    let stmt = stmts[at as usize];
-    let values = count(exprs, stmt.exprs);
-    let inner = count(stmts, stmt.stmts);
-    let names = count(decls, stmt.decls);
-    stmt_spelling(stmt.kind, values, inner, names)
+    let decl = tables.decls[at as usize];
+    let end = write_exprs(tables, decl.value, out, from);
+    let values = count(tables.exprs, decl.value);
+    put_decl(out, end, decl.name, values)
 }
 
 // Writes a row of statements.
 #[cycle(write_around_write_parts_write_stmt_write_stmts)]
-fn write_stmts(
-    exprs: &[ExprRecord],
-    stmts: &[StmtRecord],
-    decls: &[DeclRecord],
-    row: u32,
-    out: &mut [u8],
-    from: usize,
-) -> usize
-    requires { Writable (tables exprs.now stmts.now decls.now) (stmt_at row) }
-    ensures { Writes stmts_row_bytes (tables exprs.now stmts.now decls.now) (stmt_at row) out.old from out.new result }
+fn write_stmts(tables: Lent, row: u32, out: &mut [u8], from: usize) -> usize
+    requires { Writable (heap tables) (stmt_at row) }
+    ensures { Writes stmts_row_bytes (heap tables.entry) (stmt_at row) out.old from out.new result }
 {
     let mut at = row;
     let mut end = from;
     while at != NOWHERE {
-        end = write_stmt(exprs, stmts, decls, at, out, end);
-        at = stmts[at as usize].next;
+        end = write_stmt(tables, at, out, end);
+        at = tables.stmts[at as usize].next;
     }
     end
 }
 
 // Writes one statement: its parts, then its command.
 #[cycle(write_around_write_parts_write_stmt_write_stmts)]
-fn write_stmt(
-    exprs: &[ExprRecord],
-    stmts: &[StmtRecord],
-    decls: &[DeclRecord],
-    at: u32,
-    out: &mut [u8],
-    from: usize,
-) -> usize
+fn write_stmt(tables: Lent, at: u32, out: &mut [u8], from: usize) -> usize
     requires some { at ≢ nowhere }
-    requires writable { Writable (tables exprs.now stmts.now decls.now) (stmt_at at) }
-    ensures { Writes first_bytes (tables exprs.now stmts.now decls.now) (stmt_at at) out.old from out.new result }
+    requires writable { Writable (heap tables) (stmt_at at) }
+    ensures { Writes first_bytes (heap tables.entry) (stmt_at at) out.old from out.new result }
 {
-    let end = write_parts(exprs, stmts, decls, at, out, from);
-    put_spelling(out, end, stmt_command(exprs, stmts, decls, at))
+    let end = write_parts(tables, at, out, from);
+    write_command(tables, at, out, end)
 }
 
-// Writes the parts of a statement in its order.
+// Writes the parts of a statement in source order.
 #[cycle(write_around_write_parts_write_stmt_write_stmts)]
-fn write_parts(
-    exprs: &[ExprRecord],
-    stmts: &[StmtRecord],
-    decls: &[DeclRecord],
-    at: u32,
-    out: &mut [u8],
-    from: usize,
-) -> usize
+fn write_parts(tables: Lent, at: u32, out: &mut [u8], from: usize) -> usize
     requires some { at ≢ nowhere }
-    requires writable { Writable (tables exprs.now stmts.now decls.now) (stmt_at at) }
-    ensures { Writes parts_bytes (tables exprs.now stmts.now decls.now) (stmt_at at) out.old from out.new result }
+    requires writable { Writable (heap tables) (stmt_at at) }
+    ensures { Writes parts_bytes (heap tables.entry) (stmt_at at) out.old from out.new result }
 {
-    let stmt = stmts[at as usize];
-    match part_order(stmt.kind) {
-        Order::ExprsFirst => {
-            let end = write_exprs(exprs, stmt.exprs, out, from);
-            let end = write_decls(exprs, decls, stmt.decls, out, end);
-            write_stmts(exprs, stmts, decls, stmt.stmts, out, end)
+    let stmt = tables.stmts[at as usize];
+    match stmt.kind {
+        StatementKind::DoWhile => {
+            let end = write_stmts(tables, stmt.stmts, out, from);
+            write_exprs(tables, stmt.exprs, out, end)
         }
-        Order::StmtsFirst => {
-            let end = write_stmts(exprs, stmts, decls, stmt.stmts, out, from);
-            write_exprs(exprs, stmt.exprs, out, end)
+        StatementKind::For(head) if head.init == ForInit::Declaration => {
+            write_around(tables, at, out, from)
         }
-        Order::StmtFirst => write_around(exprs, stmts, decls, at, out, from),
+        _ => {
+            let end = write_exprs(tables, stmt.exprs, out, from);
+            let end = write_decls(tables, stmt.decls, out, end);
+            write_stmts(tables, stmt.stmts, out, end)
+        }
     }
 }
 
 // Writes a statement's first statement, its expressions, and its other statements.
 #[cycle(write_around_write_parts_write_stmt_write_stmts)]
-fn write_around(
-    exprs: &[ExprRecord],
-    stmts: &[StmtRecord],
-    decls: &[DeclRecord],
-    at: u32,
-    out: &mut [u8],
-    from: usize,
-) -> usize
+fn write_around(tables: Lent, at: u32, out: &mut [u8], from: usize) -> usize
     requires some { at ≢ nowhere }
-    requires writable { Writable (tables exprs.now stmts.now decls.now) (stmt_at at) }
-    ensures { Writes around_bytes (tables exprs.now stmts.now decls.now) (stmt_at at) out.old from out.new result }
+    requires writable { Writable (heap tables) (stmt_at at) }
+    ensures { Writes around_bytes (heap tables.entry) (stmt_at at) out.old from out.new result }
 {
-    let stmt = stmts[at as usize];
+    let stmt = tables.stmts[at as usize];
     let first = stmt.stmts;
     if first == NOWHERE {
-        return write_exprs(exprs, stmt.exprs, out, from);
+        return write_exprs(tables, stmt.exprs, out, from);
     }
-    let end = write_stmt(exprs, stmts, decls, first, out, from);
-    let end = write_exprs(exprs, stmt.exprs, out, end);
-    write_stmts(exprs, stmts, decls, stmts[first as usize].next, out, end)
+    let end = write_stmt(tables, first, out, from);
+    let end = write_exprs(tables, stmt.exprs, out, end);
+    write_stmts(tables, tables.stmts[first as usize].next, out, end)
+}
+
+// Writes the command of a statement.
+fn write_command(tables: Lent, at: u32, out: &mut [u8], from: usize) -> usize
+    requires some { at ≢ nowhere }
+    requires writable { Writable (heap tables) (stmt_at at) }
+    ensures { Writes command_bytes (heap tables.entry) (stmt_at at) out.old from out.new result }
+{
+    let stmt = tables.stmts[at as usize];
+    let exprs = count(tables.exprs, stmt.exprs);
+    let stmts = count(tables.stmts, stmt.stmts);
+    let decls = count(tables.decls, stmt.decls);
+    put_stmt(out, from, stmt.kind, exprs, stmts, decls)
 }
 
 // Writes a body and its command from the start of the output.
-fn write_whole(
-    exprs: &[ExprRecord],
-    stmts: &[StmtRecord],
-    decls: &[DeclRecord],
-    body: u32,
-    out: &mut [u8],
-) -> usize
-    requires { Writable (tables exprs.now stmts.now decls.now) (stmt_at body) }
-    ensures { (row : Row) → At (tables exprs.now stmts.now decls.now) (stmt_at body) row → placed out.old 0 (body_row_bytes row) ≡ (out.new, result) }
+fn write_whole(tables: Lent, body: u32, out: &mut [u8]) -> usize
+    requires { Writable (heap tables) (stmt_at body) }
+    ensures { (row : Row) → At (heap tables.entry) (stmt_at body) row → placed out.old 0 (body_row_bytes row) ≡ (out.new, result) }
 {
-    let end = write_stmts(exprs, stmts, decls, body, out, 0);
-    let inner = count(stmts, body);
-    put_spelling(out, end, body_spelling(inner))
+    let end = write_stmts(tables, body, out, 0);
+    let stmts = count(tables.stmts, body);
+    put_body(out, end, stmts)
 }
 
 // How many bytes a body and its command take.
-fn bytes_length(
-    exprs: &[ExprRecord],
-    stmts: &[StmtRecord],
-    decls: &[DeclRecord],
-    body: u32,
-) -> usize
-    requires { Writable (tables exprs.now stmts.now decls.now) (stmt_at body) }
-    ensures { (row : Row) → At (tables exprs.now stmts.now decls.now) (stmt_at body) row → result ≡ length (body_row_bytes row) }
+fn bytes_length(tables: Lent, body: u32) -> usize
+    requires { Writable (heap tables) (stmt_at body) }
+    ensures { (row : Row) → At (heap tables.entry) (stmt_at body) row → result ≡ length (body_row_bytes row) }
 {
     let mut none = [0u8; 0];
-    write_whole(exprs, stmts, decls, body, &mut none)
+    write_whole(tables, body, &mut none)
 }
 
 // Writes a body at the start of the output, if it is long enough; the answer is how many bytes there are.
-pub fn write_body(
-    exprs: &[ExprRecord],
-    stmts: &[StmtRecord],
-    decls: &[DeclRecord],
-    body: u32,
-    out: &mut [u8],
-) -> Option<usize>
-    requires readable { Readable (tables exprs.now stmts.now decls.now) (stmt_at body) }
-    requires limited { Limited (tables exprs.now stmts.now decls.now) }
-    ensures { (ss : Stmts) → At (tables exprs.now stmts.now decls.now) (stmt_at body) (stmts_row ss) → SoundStmts ss → WrittenOut result (body_bytes ss) out.old out.new }
+pub fn write_body(tables: Lent, body: u32, out: &mut [u8]) -> Option<usize>
+    requires readable { Readable (heap tables) (stmt_at body) }
+    requires limited { Limited (heap tables) }
+    ensures { (ss : Stmts) → At (heap tables.entry) (stmt_at body) (stmts_row ss) → SoundStmts ss → WrittenOut result (body_bytes ss) out.old out.new }
 {
-    if bytes_length(exprs, stmts, decls, body) > out.len() {
+    if bytes_length(tables, body) > out.len() {
         return None;
     }
-    Some(write_whole(exprs, stmts, decls, body, out))
+    Some(write_whole(tables, body, out))
 }

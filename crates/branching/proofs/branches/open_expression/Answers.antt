@@ -3,4 +3,4 @@ use Rattle.branching.proofs.branches.open_expression.Goals as goal
 
 pub returns : goal.returns
 returns c es ds a d e loose rest o =
-    rw c.stmt_at-stmt.ensures (gives_expression e c.give.new.table c.give.new.pool c.give.ensures o)
+    rw c.record_at-stmt.ensures (gives_expression e _ _ c.give.ensures o)

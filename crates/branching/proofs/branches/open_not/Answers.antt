@@ -3,4 +3,4 @@ use Rattle.branching.proofs.branches.open_not.Goals as goal
 
 pub returns : goal.returns
 returns c ss ds s d e loose rest o =
-    rw c.expr_at-expr.ensures (gives_not e c.give.new.table c.give.new.pool c.give.ensures o)
+    rw c.record_at-expr.ensures (gives_not e _ _ c.give.ensures o)

@@ -6,6 +6,7 @@ use Rattle.records.specs.Owned.{Root}
 use Rattle.records.specs.Rows.{end}
 use Rattle.records.proofs.Moves.{pick}
 use Rattle.moves.proofs.Frames.{arrange, then_move}
+use Rattle.moves.proofs.Trees.{detached_stmt}
 use Rattle.branching.proofs.minimize.branches_to_conditional.Goals as goal
 
 pub returns : goal.returns
@@ -16,7 +17,7 @@ returns c ds t x y n loose rest o =
     then_move
     (then_move
     (then_move
-    (c.detach-other.ensures es ds p (expression x) (stmt_row (expression y) end) loose (test ∷ rest) (pick 1 o))
+    (detached_stmt _ _ _ _ c.detach-other.ensures es ds p (expression x) (stmt_row (expression y) end) loose (test ∷ rest) (pick 1 o))
     (λ o₁. c.open_expression-a.ensures es ds p.exprs p.decls x loose
     ((stmt_at c.detach-other.result, stmt_row (expression y) end) ∷ test ∷ rest) o₁))
     (λ o₂. c.open_expression-b.ensures es ds p.exprs p.decls y loose

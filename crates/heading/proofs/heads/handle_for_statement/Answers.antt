@@ -7,10 +7,10 @@ use Rattle.rules.specs.For.{for_head}
 use Rattle.heading.proofs.Fronting.{for_closed}
 use Rattle.heading.proofs.heads.handle_for_statement.Goals as goal
 
-pub returns : goal.returns
-returns c i t u b r e n loose rest o =
+pub returns-clause-makes : goal.returns-clause-makes
+returns-clause-makes c i t u b r e n loose rest o =
     let l = n.exprs in
     rw c.set.ensures
-    (for_closed c.work_head-front.result c.args.head (for_head c.args.sequences i r) i t u b e
-    (c.work_head-front.ensures i (optional_row t (optional_row u end)) (stmt_row b end) r (ap (λ (v : ForHead). v.init) e) (omega arith)
+    (for_closed c.work_head-worked.result c.args.head (for_head c.args.sequences i r) i t u b e
+    (c.work_head-worked.ensures.makes i (optional_row t (optional_row u end)) (stmt_row b end) r (ap (λ (v : ForHead). v.init) e) (omega arith)
     (stmt_at c.args.at ∷ loose) rest o))

@@ -12,12 +12,12 @@ returns-then-is_expression c ds v w y r n loose rest o =
     head_by_expression c.args.sequences v w y r c.if-not-sequences.false (sym c.is_expression.ensures ∙ c.if-is_expression.true)
     (λ a r' o₁. c.take_expression.ensures ds v w y a r' n loose rest o₁) o
 
-pub returns-then-init-eq-NOWHERE : goal.returns-then-init-eq-NOWHERE
-returns-then-init-eq-NOWHERE c ds v w y r n loose rest o =
+pub returns-then-expr-eq-NOWHERE : goal.returns-then-expr-eq-NOWHERE
+returns-then-expr-eq-NOWHERE c ds v w y r n loose rest o =
     head_by_declaration c.args.sequences v w y r c.if-not-sequences.false (sym c.is_expression.ensures ∙ c.if-is_expression.false)
-    c.if-init-eq-NOWHERE.true (λ o₁. c.take_var.ensures c.args.exprs.now ds c.args.pools.now w y r loose rest o₁) o
+    c.if-expr-eq-NOWHERE.true (λ o₁. c.take_var.ensures c.args.exprs.now ds c.args.pools.now w y r loose rest o₁) o
 
 pub returns : goal.returns
 returns c ds v w y r n loose rest o =
     head_by_init c.args.sequences v w y r c.if-not-sequences.false (sym c.is_expression.ensures ∙ c.if-is_expression.false)
-    c.if-init-eq-NOWHERE.false (λ o₁. c.put_init-2.ensures c.args.stmts.now ds c.args.pools.now v w y r loose rest o₁) o
+    c.if-expr-eq-NOWHERE.false (λ o₁. c.put_init-2.ensures c.args.stmts.now ds c.args.pools.now v w y r loose rest o₁) o

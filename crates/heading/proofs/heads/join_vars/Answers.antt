@@ -6,19 +6,21 @@ use Rattle.script.specs.Tree.{declaration}
 use Rattle.rules.specs.Declarations.{append_declarators}
 use Rattle.moves.proofs.Open.{kind_of_stmt}
 use Rattle.moves.proofs.Single.{give_stmt_of}
+use Rattle.merging.proofs.NamesBehind.{joined_names}
 use Rattle.heading.proofs.Fronting.{var_closed, vars_opened}
 use Rattle.heading.proofs.heads.join_vars.Goals as goal
 use Rattle.moves.proofs.Frames.{then_use}
 
 pub returns : goal.returns
 returns c es k xs ys y z loose rest o =
-    let own = c.stmt_at-own.result in
-    let last = c.stmt_at-last.result in
+    let own = c.record_at-own.result in
+    let last = c.record_at-last.result in
     then_use
     (then_use
-    (c.append_names-names.ensures es c.args.stmts.now c.args.pools.now xs ys (stmt_at c.args.inner ∷ stmt_at c.args.results ∷ loose)
+    (joined_names c.args.decls.now c.join_rows-names.new.table last.decls own.decls c.join_rows-names.result c.join_rows-names.ensures es c.args.stmts.now
+    c.args.pools.now xs ys (stmt_at c.args.inner ∷ stmt_at c.args.results ∷ loose)
     ((expr_at own.exprs, end) ∷ (stmt_at own.stmts, end) ∷ (stmt_at own.next, y) ∷ (stmt_at last.next, z) ∷ rest)
-    (vars_opened k xs ys y z own last c.stmt_at-own.ensures c.stmt_at-last.ensures o))
+    (vars_opened k xs ys y z own last c.record_at-own.ensures c.record_at-last.ensures o))
     (λ o₁. var_closed k (append_declarators xs ys) y own
-    (ap (λ (v : StmtRecord). v.kind) c.stmt_at-own.ensures ∙ kind_of_stmt (declaration k ys) y o) c.set.ensures o₁))
+    (ap (λ (v : StmtRecord). v.kind) c.record_at-own.ensures ∙ kind_of_stmt (declaration k ys) y o) c.set.ensures o₁))
     (λ o₂. give_stmt_of c.args.results c.give.new.table c.give.new.pool c.give.ensures o₂)

@@ -1,5 +1,5 @@
 use Rattle.hosts.proofs.Steps.{ToLast}
 use Rattle.hosts.proofs.reader.last_undefined.Given as goal
 
-abbrev pub invariant-loop-i : goal.invariant-loop-i
-invariant-loop-i l = ToLast l.exprs l.row l.at l._i
+abbrev pub invariant-loop : goal.invariant-loop
+invariant-loop l = ToLast l.exprs l.row l.at l.counter

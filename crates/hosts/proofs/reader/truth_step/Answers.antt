@@ -15,4 +15,5 @@ returns-in-Void c =
 
 pub returns-in_default-kind : goal.returns-in_default-kind
 returns-in_default-kind c =
-    told_other c.args.exprs.now c.args.at c.in-Some.expr c.kind_truth.result c.in-Some.ensures c.in_default-kind.not-Not c.in_default-kind.not-Void c.kind_truth.ensures
+    told_other c.args.exprs.now c.args.at c.in-Some.expr c.kind_truth.result c.in-Some.ensures
+    c.in_default-kind.not-Not c.in_default-kind.not-Void c.kind_truth.ensures

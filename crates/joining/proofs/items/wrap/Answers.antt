@@ -4,6 +4,6 @@ use Rattle.joining.proofs.items.wrap.Goals as goal
 
 pub returns : goal.returns
 returns c ss ds e w v n loose rest o =
-    rw (c.set-2.ensures, c.set.ensures, c.expr_at-expr.ensures)
+    rw (c.set-2.ensures, c.set.ensures, c.record_at-expr.ensures)
     (wrapped c.take-inner.result c.args.kind e w v
-    (λ ks roots q. take_expr_of c.take-inner.result c.take-inner.new.pool c.take-inner.ensures n q) o)
+    (λ ks roots q. take_expr_of _ _ c.take-inner.ensures n q) o)

@@ -1,27 +1,23 @@
-use mathlib.Core.Path.{◌∙◌, ap, sym}
-use Rattle.records.specs.declared.record.ExprRecord.{ExprRecord}
-use Rattle.moves.proofs.Single.{take_expr_of}
+use mathlib.Core.Path.{sym}
+use Rattle.moves.proofs.Trees.{appended_exprs, linked_expr}
 use Rattle.joining.proofs.Sequences.{in_first, in_new, in_second}
 use Rattle.joining.proofs.sequence.join_sequence.Goals as goal
 
 pub returns-in-Sequence : goal.returns-in-Sequence
 returns-in-Sequence c ss ds x y n loose rest o =
-    let r = c.expr_at-first.ensures in
-    in_first c.expr_at-first.result.first x y (ap (λ (v : ExprRecord). v.first) r)
-    (sym c.in-Sequence.is ∙ ap (λ (v : ExprRecord). v.kind) r) (λ e es w. c.append_row.ensures ss ds c.args.pools.now e es w) o
+    let r = c.record_at-first.ensures in
+    in_first x y (sym (rw r at c.in-Sequence.is))
+    (λ e es w. appended_exprs _ _ _ _ (rw r at c.append.ensures) ss ds c.args.pools.now e es w) o
 
 pub returns-in-Sequence-kind : goal.returns-in-Sequence-kind
 returns-in-Sequence-kind c ss ds x y n loose rest o =
-    let r = c.expr_at-second.ensures in
+    let r = c.record_at-second.ensures in
     rw c.set.ensures
-    (in_second x y (λ z. c.in_default.not-Sequence (ap (λ (v : ExprRecord). v.kind) c.expr_at-first.ensures ∙ z))
-    (sym c.in-Sequence-kind.is ∙ ap (λ (v : ExprRecord). v.kind) r)
-    (λ e w. rw r at (c.link_expr.ensures ss ds c.args.pools.now e w)) o)
+    (in_second x y (rw c.record_at-first.ensures at c.in_default.not-Sequence) (sym (rw r at c.in-Sequence-kind.is))
+    (λ e w. linked_expr _ _ _ _ (rw r at c.link.ensures) ss ds c.args.pools.now e w) o)
 
 pub returns : goal.returns
 returns c ss ds x y n loose rest o =
-    rw c.set-2.ensures
-    (in_new x y (λ z. c.in_default.not-Sequence (ap (λ (v : ExprRecord). v.kind) c.expr_at-first.ensures ∙ z))
-    (λ z. c.in_default-kind.not-Sequence (ap (λ (v : ExprRecord). v.kind) c.expr_at-second.ensures ∙ z))
-    (λ e w. c.link_expr-2.ensures ss ds c.args.pools.now e w)
-    (λ roots q. take_expr_of c.take-at.result c.take-at.new.pool c.take-at.ensures n q) o)
+    in_new x y (rw c.record_at-first.ensures at c.in_default.not-Sequence) (rw c.record_at-second.ensures at c.in_default-kind.not-Sequence)
+    (λ e w. linked_expr _ _ _ _ c.link-2.ensures ss ds c.args.pools.now e w)
+    (λ v. c.make.ensures ss ds v n) o

@@ -1,14 +1,19 @@
-use Rattle.lending.proofs.RootsMarked.{reached_exprs, reached_stmts, reached}
+use Rattle.std.proofs.Common.{◌≡◌, Bool, true, false, sym, ◌∙◌}
+use Rattle.lending.proofs.RootsMarked.{unreached_exprs, unreached_stmts, reached}
 use Rattle.lending.proofs.check.all_reached.Goals as goal
+use Rattle.lending.proofs.check.all_reached.Goals.{then-all_marked, else-all_marked}
 
-pub returns-then-not-all_marked : goal.returns-then-not-all_marked
-returns-then-not-all_marked c =
-    reached_exprs c.args.exprs.now c.args.stmts.now c.args.decls.now c.args.marks_exprs.now c.args.marks_stmts.now c.args.marks_decls.now c.if-not-all_marked.ensures
+pub returns-then-all_marked-2 : goal.returns-then-all_marked-2
+returns-then-all_marked-2 c = λ h sized.
+    elim c.if-all_marked.branch [
+      | then-all_marked w ↦ reached sized c.all_marked-then-all_marked-2.result w.if-all_marked.true
+          (sym w.value-is ∙ c.if-all_marked-2.true) c.all_marked.ensures w.all_marked-then-all_marked.ensures c.all_marked-then-all_marked-2.ensures
+      | else-all_marked w ↦ let z : ◌≡◌ {A = Bool} false true = sym w.if-all_marked.false ∙ sym w.value-is ∙ c.if-all_marked-2.true in cc
+    ]
 
-pub returns-then-not-all_marked-2 : goal.returns-then-not-all_marked-2
-returns-then-not-all_marked-2 c =
-    reached_stmts c.args.exprs.now c.args.stmts.now c.args.decls.now c.args.marks_exprs.now c.args.marks_stmts.now c.args.marks_decls.now c.if-not-all_marked-2.ensures
-
-pub returns : goal.returns
-returns c =
-    reached c.args.exprs.now c.args.stmts.now c.args.decls.now c.args.marks_exprs.now c.args.marks_stmts.now c.args.marks_decls.now c.all_marked-3.result c.if-not-all_marked.ensures c.if-not-all_marked-2.ensures c.all_marked-3.ensures
+pub returns-else-all_marked-2 : goal.returns-else-all_marked-2
+returns-else-all_marked-2 c = λ h sized.
+    elim c.if-all_marked.branch [
+      | then-all_marked w ↦ unreached_stmts sized c.if-all_marked-2.false (sym w.value-is ∙ c.if-all_marked-2.false) w.all_marked-then-all_marked.ensures
+      | else-all_marked w ↦ unreached_exprs sized c.if-all_marked-2.false w.if-all_marked.false c.all_marked.ensures
+    ]

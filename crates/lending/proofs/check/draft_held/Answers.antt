@@ -1,15 +1,15 @@
-use Rattle.records.specs.Readable.{tables}
+use Rattle.std.proofs.Common.{Bool, sym, subst}
+use Rattle.records.specs.Lent.{heap}
+use Rattle.lending.specs.Marked.{DecidesDraft}
 use Rattle.lending.proofs.SheetsHeld.{draft_refuted, draft_decided}
 use Rattle.lending.proofs.check.draft_held.Goals as goal
 
-pub returns-then-not-rows_held : goal.returns-then-not-rows_held
-returns-then-not-rows_held c = record {
-  held = draft_refuted (tables c.args.exprs.now c.args.stmts.now c.args.decls.now) c.args.draft.now c.body_place.result c.body_place.ensures c.if-not-rows_held.ensures.held;
-  cleared = c.if-not-rows_held.ensures.cleared;
-}
+pub returns-then-rows_held-clause-held : goal.returns-then-rows_held-clause-held
+returns-then-rows_held-clause-held c =
+    draft_decided (heap c.args.tables) c.args.draft.now c.body_place.result c.body_place.ensures c.if-rows_held.ensures.held c.stands_alone.result
+    c.stands_alone.ensures
 
-pub returns : goal.returns
-returns c = record {
-  held = draft_decided (tables c.args.exprs.now c.args.stmts.now c.args.decls.now) c.args.draft.now c.body_place.result c.body_place.ensures c.if-not-rows_held.ensures.held c.stands_alone.result c.stands_alone.ensures;
-  cleared = c.if-not-rows_held.ensures.cleared;
-}
+pub returns-else-rows_held-clause-held : goal.returns-else-rows_held-clause-held
+returns-else-rows_held-clause-held c =
+    subst (λ (b : Bool). DecidesDraft b (heap c.args.tables) c.args.draft.now) (sym c.if-rows_held.false)
+    (draft_refuted (heap c.args.tables) c.args.draft.now c.body_place.result c.body_place.ensures c.if-rows_held.ensures.held)

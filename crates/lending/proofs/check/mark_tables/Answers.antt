@@ -12,7 +12,7 @@ mark_all-requires c =
     let b₁ = subst Blank s.ensures.value (blank_back e.result.0.now e.result.1.now b) in
     let b₂ = subst Blank d.ensures.value (blank_back s.result.0.now s.result.1.now b₁) in
     record {
-      exprs = (c.requires.short.0, e.ensures.front_len, blank_front e.result.0.now e.result.1.now b);
-      stmts = (c.requires.short.1, s.ensures.front_len, blank_front s.result.0.now s.result.1.now b₁);
-      decls = (c.requires.short.2, d.ensures.front_len, blank_front d.result.0.now d.result.1.now b₂);
+      short = c.requires.short;
+      sized = record { exprs = e.ensures.front_len; stmts = s.ensures.front_len; decls = d.ensures.front_len };
+      blank = (blank_front e.result.0.now e.result.1.now b, blank_front s.result.0.now s.result.1.now b₁, blank_front d.result.0.now d.result.1.now b₂);
     }

@@ -1,8 +1,10 @@
-use Rattle.records.specs.Heap.{stmt_at}
-use Rattle.records.specs.Readable.{tables}
-use Rattle.moves.proofs.Dropping.{Pending, stmts_of}
+use Rattle.records.specs.TableOf.{stmt_table}
+use Rattle.moves.specs.Lent.{SameSlices, heap}
+use Rattle.moves.proofs.Dropping.{Pending}
 use Rattle.moves.proofs.drops.drop_stmt_row.Given as goal
 
 abbrev pub invariant-loop-i : goal.invariant-loop-i
-invariant-loop-i l =
-    Pending (tables l.initial.exprs l.initial.stmts l.initial.decls) l.initial.pools (stmt_at l.initial.row) (tables l.exprs l.stmts l.decls) l.pools (stmt_at l.at) stmts_of l._i
+invariant-loop-i l = record {
+  lent : SameSlices l.initial.tables l.tables;
+  pending : Pending stmt_table (heap l.initial.tables) l.initial.tables.pools l.initial.row (heap l.tables) l.tables.pools l.at l._i;
+}

@@ -10,7 +10,7 @@ returns-then-at-table g c =
     let head = c.args.self.now.head in
     let e₁ : eqb c.args.self.now.count 0 ≡ false = ne_eqb c.args.self.now.count 0 c.if-self-eq0.false in
     let e₂ : ltb head (length links) ≡ false = le-ltb head (length links) (let h = c.if-at-table.true in omega (arith, length-map c.args.table.now g.R.Linked.link)) in
-    record { answer = rw (e₁, e₂) (ap (λ t. Err (Outside t)) c.tag-then-at-table.ensures); after = rw (e₁, e₂) }
+    record { answer = rw (e₁, e₂) (ap (λ t. Err (Outside t)) c.table-then-at-table.ensures); after = rw (e₁, e₂) }
 
 pub returns : goal.returns
 returns g c =

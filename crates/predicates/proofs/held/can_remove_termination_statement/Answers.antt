@@ -1,34 +1,22 @@
-use mathlib.Core.Path.{sym, ◌∙◌}
+use Rattle.std.proofs.Common.{◌≡◌, refl, ◌∙◌}
+use denote.Enum.Bare.{sameb}
 use Rattle.records.specs.Readable.{tables}
-use Rattle.moves.proofs.Told.{told_stmt_kind}
+use Rattle.rules.specs.Jumps.{drops_return}
 use Rattle.predicates.specs.Held.{holder_of}
-use Rattle.predicates.proofs.ByKind.{break_goes, continue_goes, others_stay}
-use Rattle.predicates.proofs.Parts.{return_goes, return_stays}
+use Rattle.predicates.specs.declared.held.Holder.{Holder}
+use Rattle.predicates.specs.declared.held.Holder.TheVariants.{Body, LoopBlock, OnceBlock, Other}
+use Rattle.predicates.specs.contracts.held.Holder.{the_type}
+use Rattle.predicates.proofs.Parts.{return_goes}
 use Rattle.predicates.proofs.held.can_remove_termination_statement.Goals as goal
+
+only_body : (h : Holder) → sameb the_type h Body ≡ drops_return (holder_of h)
+only_body Body = refl
+only_body Other = refl
+only_body LoopBlock = refl
+only_body OnceBlock = refl
 
 pub returns-then-stmt : goal.returns-then-stmt
 returns-then-stmt c es ds x w s a n =
-    return_stays (holder_of c.args.holder) (tables es c.args.stmts.now ds) c.args.at c.stmt_at-stmt.result c.stmt_at-stmt.ensures x w s a
+    c.eq.ensures ∙ only_body c.args.holder
+    ∙ return_goes (holder_of c.args.holder) (tables es c.args.stmts.now ds) c.args.at c.record_at-stmt.result c.record_at-stmt.ensures x w s a
     c.in-Return.is c.if-stmt.true
-
-pub returns-else-stmt : goal.returns-else-stmt
-returns-else-stmt c es ds x w s a n =
-    c.drops_return.ensures
-    ∙ return_goes (holder_of c.args.holder) (tables es c.args.stmts.now ds) c.args.at c.stmt_at-stmt.result c.stmt_at-stmt.ensures x w s a
-    c.in-Return.is c.if-stmt.false
-
-pub returns-in-Break : goal.returns-in-Break
-returns-in-Break c es ds x w s a n =
-    let k = told_stmt_kind (tables es c.args.stmts.now ds) c.args.at x w c.stmt_at-stmt.ensures a in
-    c.drops_break.ensures ∙ break_goes (holder_of c.args.holder) x (sym c.in-Break.is ∙ k)
-
-pub returns-in-Continue : goal.returns-in-Continue
-returns-in-Continue c es ds x w s a n =
-    let k = told_stmt_kind (tables es c.args.stmts.now ds) c.args.at x w c.stmt_at-stmt.ensures a in
-    c.drops_continue.ensures ∙ continue_goes (holder_of c.args.holder) x (sym c.in-Continue.is ∙ k)
-
-pub returns-in_default : goal.returns-in_default
-returns-in_default c es ds x w s a n =
-    let k = told_stmt_kind (tables es c.args.stmts.now ds) c.args.at x w c.stmt_at-stmt.ensures a in
-    others_stay (holder_of c.args.holder) x (λ z. c.in_default.not-Return (k ∙ z)) (λ z. c.in_default.not-Break (k ∙ z))
-    (λ z. c.in_default.not-Continue (k ∙ z))

@@ -1,8 +1,5 @@
-use Rattle.std.proofs.Common.{sym, subst}
 use Rattle.script.specs.Stacks.{perform}
-use Rattle.reading.specs.declared.making.Making.{Making}
-use Rattle.reading.specs.Making.{Matches}
-use Rattle.reading.proofs.Matching.{made_matches}
+use Rattle.reading.proofs.Matching.{making_matches}
 use Rattle.reading.proofs.Performed.{expr_judged, declarator_judged}
 use Rattle.reading.proofs.PerformedStmts.{stmt_judged, body_judged}
 use Rattle.reading.proofs.Rooms.{exprs_room, stmts_room, decls_room, no_body_yet}
@@ -20,23 +17,31 @@ put_stmt-requires c = stmts_room _ c.args.draft.now c.requires.held.0 c.requires
 pub returns-in-Expr : goal.returns-in-Expr
 returns-in-Expr c m holds reads listed =
     let d = c.args.draft.now in
-    let q = subst (λ (x : Making). Matches x m.stacks (perform c.args.command m.stacks)) (sym c.in-Expr.ensures) (made_matches c.args.command m.stacks listed) in
-    expr_judged c.args.exprs.now c.args.stmts.now c.args.decls.now d m holds (no_body_yet d.stage m.stage reads.0 reads.1) c.in-Expr.kind c.in-Expr.parts (perform c.args.command m.stacks) c.put_expr.result c.put_expr.new.draft c.put_expr.new.exprs q c.put_expr.ensures
+    let q = making_matches c.args.command m.stacks _ c.in-Expr.ensures listed in
+    expr_judged c.args.exprs.now c.args.stmts.now c.args.decls.now d m holds (no_body_yet d.stage m.stage reads.0 reads.1)
+    c.in-Expr.kind c.in-Expr.parts (perform c.args.command m.stacks)
+    c.put_expr.result c.put_expr.new.draft c.put_expr.new.exprs q c.put_expr.ensures
 
 pub returns-in-Decl : goal.returns-in-Decl
 returns-in-Decl c m holds reads listed =
     let d = c.args.draft.now in
-    let q = subst (λ (x : Making). Matches x m.stacks (perform c.args.command m.stacks)) (sym c.in-Decl.ensures) (made_matches c.args.command m.stacks listed) in
-    declarator_judged c.args.exprs.now c.args.stmts.now c.args.decls.now d m holds (no_body_yet d.stage m.stage reads.0 reads.1) c.in-Decl.name c.in-Decl.parts (perform c.args.command m.stacks) c.put_declarator.result c.put_declarator.new.draft c.put_declarator.new.exprs c.put_declarator.new.decls q c.put_declarator.ensures
+    let q = making_matches c.args.command m.stacks _ c.in-Decl.ensures listed in
+    declarator_judged c.args.exprs.now c.args.stmts.now c.args.decls.now d m holds (no_body_yet d.stage m.stage reads.0 reads.1)
+    c.in-Decl.name c.in-Decl.parts (perform c.args.command m.stacks)
+    c.put_declarator.result c.put_declarator.new.draft c.put_declarator.new.exprs c.put_declarator.new.decls q c.put_declarator.ensures
 
 pub returns-in-Stmt : goal.returns-in-Stmt
 returns-in-Stmt c m holds reads listed =
     let d = c.args.draft.now in
-    let q = subst (λ (x : Making). Matches x m.stacks (perform c.args.command m.stacks)) (sym c.in-Stmt.ensures) (made_matches c.args.command m.stacks listed) in
-    stmt_judged c.args.exprs.now c.args.stmts.now c.args.decls.now d m holds (no_body_yet d.stage m.stage reads.0 reads.1) c.in-Stmt.kind (record { exprs = c.in-Stmt.n; stmts = c.in-Stmt.m; decls = c.in-Stmt.d }) (perform c.args.command m.stacks) c.put_stmt.result c.put_stmt.new.draft c.put_stmt.new.exprs c.put_stmt.new.stmts c.put_stmt.new.decls q c.put_stmt.ensures
+    let q = making_matches c.args.command m.stacks _ c.in-Stmt.ensures listed in
+    stmt_judged c.args.exprs.now c.args.stmts.now c.args.decls.now d m holds (no_body_yet d.stage m.stage reads.0 reads.1)
+    c.in-Stmt.kind c.in-Stmt.parts (perform c.args.command m.stacks)
+    c.put_stmt.result c.put_stmt.new.draft c.put_stmt.new.exprs c.put_stmt.new.stmts c.put_stmt.new.decls q c.put_stmt.ensures
 
 pub returns-in-Body : goal.returns-in-Body
 returns-in-Body c m holds reads listed =
     let d = c.args.draft.now in
-    let q = subst (λ (x : Making). Matches x m.stacks (perform c.args.command m.stacks)) (sym c.in-Body.ensures) (made_matches c.args.command m.stacks listed) in
-    body_judged c.args.exprs.now c.args.stmts.now c.args.decls.now d m holds (no_body_yet d.stage m.stage reads.0 reads.1) c.in-Body.count (perform c.args.command m.stacks) c.put_body.result c.put_body.new.draft c.put_body.new.stmts q c.put_body.ensures
+    let q = making_matches c.args.command m.stacks _ c.in-Body.ensures listed in
+    body_judged c.args.exprs.now c.args.stmts.now c.args.decls.now d m holds (no_body_yet d.stage m.stage reads.0 reads.1)
+    c.in-Body.count (perform c.args.command m.stacks)
+    c.put_body.result c.put_body.new.draft c.put_body.new.stmts q c.put_body.ensures

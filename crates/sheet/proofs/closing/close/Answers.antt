@@ -2,14 +2,14 @@ use Rattle.std.proofs.Common.{Bool, Ok, Err, sym, refl, subst}
 use Rattle.records.specs.declared.record.Whole.{Whole}
 use Rattle.faults.specs.declared.fault.SheetFault.TheVariants.{Sizes, NotHeld, NoBody}
 use Rattle.records.specs.declared.record.Stage.{Stage}
-use Rattle.records.specs.Readable.{tables}
+use Rattle.records.specs.Lent.{heap}
 use Rattle.sheet.specs.Calls.{sizes_of, Closes, ClosesFrom}
 use Rattle.sheet.proofs.Promises.{closed_from}
 use Rattle.sheet.proofs.closing.close.Goals as goal
 
 pub returns-in-Complete : goal.returns-in-Complete
 returns-in-Complete c =
-    let h = tables c.args.exprs.now c.args.stmts.now c.args.decls.now in
+    let h = heap c.args.tables in
     let d = c.args.draft in
     let held = c.if-not-draft_held.ensures.held in
     subst (λ (r : Whole). Closes (sizes_of h c.args.marks.now) h d c.args.marks.now (Ok r) c.draft_held.new.marks) (sym c.whole_of.ensures)
@@ -18,7 +18,7 @@ returns-in-Complete c =
 
 pub returns-in-Reading : goal.returns-in-Reading
 returns-in-Reading c =
-    let h = tables c.args.exprs.now c.args.stmts.now c.args.decls.now in
+    let h = heap c.args.tables in
     let d = c.args.draft in
     let held = c.if-not-draft_held.ensures.held in
     subst (λ (v : Bool). Closes v h d c.args.marks.now (Err (record { draft = d; fault = NoBody })) c.draft_held.new.marks) c.if-not-sizes_fit.ensures
@@ -26,7 +26,7 @@ returns-in-Reading c =
 
 pub returns-then-not-draft_held : goal.returns-then-not-draft_held
 returns-then-not-draft_held c =
-    let h = tables c.args.exprs.now c.args.stmts.now c.args.decls.now in
+    let h = heap c.args.tables in
     let d = c.args.draft in
     let refuted = c.if-not-draft_held.ensures.held in
     subst (λ (v : Bool). Closes v h d c.args.marks.now (Err (record { draft = d; fault = NotHeld })) c.draft_held.new.marks) c.if-not-sizes_fit.ensures
@@ -34,6 +34,6 @@ returns-then-not-draft_held c =
 
 pub returns-then-not-sizes_fit : goal.returns-then-not-sizes_fit
 returns-then-not-sizes_fit c =
-    let h = tables c.args.exprs.now c.args.stmts.now c.args.decls.now in
+    let h = heap c.args.tables in
     let d = c.args.draft in
     subst (λ (v : Bool). Closes v h d c.args.marks.now (Err (record { draft = d; fault = Sizes })) c.args.marks.now) c.if-not-sizes_fit.ensures (refl, refl)

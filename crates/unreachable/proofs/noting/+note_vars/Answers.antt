@@ -1,19 +1,18 @@
 use Rattle.std.proofs.Common.{arith}
+use Rattle.records.specs.Heap.{stmt_at}
 use Rattle.records.specs.Readable.{tables}
-use Rattle.unreachable.proofs.Walks.{no_stmts_left, no_stmts_nowhere, stmts_again, stmts_end, stmts_start}
+use Rattle.moves.proofs.Nowhere.{nothing_there}
+use Rattle.unreachable.proofs.Walks.{no_stmts_left, stmts_again, stmts_end}
 use Rattle.unreachable.proofs.noting.+note_vars.Goals as goal
-
-pub loop-i-init : goal.loop-i-init
-loop-i-init t c = stmts_start c.args.stmts.now c.args.decls.now c.args.row c.args.most c.args.noted.now
 
 pub returns-then-at : goal.returns-then-at
 returns-then-at t c es r s a m d =
     let w = c.loop-i.invariant es r s a m d in
-    stmts_end w (no_stmts_nowhere (tables es c.args.stmts.now c.args.decls.now) c.loop-i.at w.rest s c.if-at.true w.here)
+    stmts_end w (nothing_there (tables es c.args.stmts.now c.args.decls.now) (stmt_at c.loop-i.at) w.rest s c.if-at.true w.here)
 
 pub loop-i-preserved : goal.loop-i-preserved
 loop-i-preserved t c =
-    let e = c.stmt_at-stmt.ensures in
+    let e = c.record_at-stmt.ensures in
     rw e
     (stmts_again c.args.stmts.now c.args.decls.now c.args.row c.loop-i.at c.args.noted.now c.loop-i.noted
     c.note_declaration.new.noted c.note_vars.new.noted c.args.most c.loop-i._i (omega arith) c.if-at.false c.loop-i.invariant

@@ -1,6 +1,4 @@
 use Rattle.std.proofs.Common.{◌≡◌, ℕ, ◌+◌, List, length, sym, ap, ◌∙◌, arith}
-use Rattle.records.specs.Heap.{stmt_at}
-use Rattle.records.specs.Readable.{tables}
 use Rattle.writing.specs.Bytes.{body_row_bytes}
 use Rattle.writing.proofs.Writing.{small_row}
 use Rattle.writing.proofs.Lengths.{body_most, placed_none}
@@ -9,7 +7,7 @@ use Rattle.writing.proofs.bytes.bytes_length.Goals as goal
 pub returns : goal.returns
 returns c row a =
     let bytes = body_row_bytes row in
-    let s = small_row (tables c.args.exprs.now c.args.stmts.now c.args.decls.now) (stmt_at c.args.body) c.requires row a in
+    let s = small_row c.requires row a in
     let l = body_most row in
     let e = sym (c.write_whole.ensures row a) ∙ placed_none 0 bytes (omega arith) in
     let n : c.write_whole.result ≡ 0 + length bytes = ap (λ (p : List ℕ × ℕ). p.1) e in

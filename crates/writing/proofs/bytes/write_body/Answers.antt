@@ -1,7 +1,7 @@
 use Rattle.std.proofs.Common.{◌≡◌, ℕ, ◌+◌, ◌≤◌, List, [], length, sym, refl, ap, ◌∙◌, arith}
 use Rattle.script.specs.Written.{body_bytes}
 use Rattle.records.specs.Heap.{stmt_at}
-use Rattle.records.specs.Readable.{tables}
+use Rattle.records.specs.Lent.{heap}
 use Rattle.records.specs.Embedding.{stmts_row}
 use Rattle.writing.specs.Bytes.{body_row_bytes, placed}
 use Rattle.writing.proofs.TreeBytes.{body_is}
@@ -18,7 +18,7 @@ returns-then-bytes_length-out c ss a s =
 
 pub returns : goal.returns
 returns c ss a s =
-    let h = tables c.args.exprs.now c.args.stmts.now c.args.decls.now in
+    let h = heap c.args.tables in
     let out = c.args.out.now in
     let bytes = body_bytes ss in
     let r = stmts_row ss in
@@ -27,7 +27,7 @@ returns c ss a s =
     let n = c.bytes_length.ensures r a in
     let t = c.if-bytes_length-out.false in
     let m = body_most r in
-    let k = small_row h (stmt_at c.args.body) (limited h (stmt_at c.args.body) c.requires.readable c.requires.limited) r a in
+    let k = small_row (limited h (stmt_at c.args.body) c.requires.readable c.requires.limited) r a in
     let fits : length bytes ≤ length out = omega arith in
     let e = sym (c.write_whole.ensures r a) ∙ ap (placed out 0) b ∙ placed_is [] out bytes fits (omega arith) in
     let z : c.write_whole.result ≡ 0 + length bytes = ap (λ (p : List ℕ × ℕ). p.1) e in

@@ -1,13 +1,12 @@
-use Rattle.std.proofs.Common.{[]}
 use Rattle.records.specs.Heap.{decl_at}
-use Rattle.records.specs.Readable.{tables}
+use Rattle.records.specs.Lent.{heap}
 use Rattle.writing.specs.Bytes.{decls_row_bytes, weight}
 use Rattle.writing.proofs.Writing.{Going}
 use Rattle.writing.proofs.bytes.write_decls.Given as goal
 
 abbrev pub invariant-loop-at : goal.invariant-loop-at
 invariant-loop-at l =
-    Going decls_row_bytes (tables l.exprs [] l.decls) (decl_at l.row) (decl_at l.at) l.initial.out l.from l.out l.end
+    Going decls_row_bytes (heap l.tables) (decl_at l.row) (decl_at l.at) l.initial.out l.from l.out l.end
 
 abbrev pub decreases-loop-at : goal.decreases-loop-at
-decreases-loop-at l = weight (tables l.exprs [] l.decls) (decl_at l.at)
+decreases-loop-at l = weight (heap l.tables) (decl_at l.at)

@@ -3,4 +3,4 @@ use Rattle.hosts.proofs.Steps.{under_end}
 use Rattle.hosts.proofs.reader.ReaderHost.truth.Goals as goal
 
 pub returns : goal.returns
-returns c = under_end c.args.exprs.now c.args.at c.loop-i.part c.loop-i.turn c.loop-i._i c.loop-i.invariant (omega arith)
+returns c = under_end c.args.exprs.now c.args.at c.loop.part c.loop.turn c.loop.counter c.loop.invariant (omega arith)

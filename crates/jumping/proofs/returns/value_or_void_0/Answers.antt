@@ -1,8 +1,0 @@
-use Rattle.jumping.proofs.Optional.{valued, voided}
-use Rattle.jumping.proofs.returns.value_or_void_0.Goals as goal
-
-pub returns-then-value-eq-NOWHERE : goal.returns-then-value-eq-NOWHERE
-returns-then-value-eq-NOWHERE c ss ds v n loose rest o = voided v c.if-value-eq-NOWHERE.true (c.void_0.ensures ss ds n) o
-
-pub returns : goal.returns
-returns c ss ds v n loose rest o = valued v c.if-value-eq-NOWHERE.false o
