@@ -1,5 +1,6 @@
 -- The walks over the table tell whether what stands there is harmless, and spend one of their budget at each record.
-use Rattle.std.proofs.Common.{◌≡◌, ℕ, suc, ◌+◌, ◌-◌, ◌<◌, ◌≤◌, Bool, true, false, ◌&&◌, List, slice_get, Some, None, Option, sym, refl, ap, ◌∙◌, subst, arith}
+use Rattle.std.proofs.Common.{◌≡◌, ℕ, zero, suc, ◌+◌, ◌-◌, ◌<◌, ◌≤◌, Bool, true, false, ◌&&◌, ◌⊎◌, List, [], ◌∷◌, length, slice_get, Some, None, Option, sym, refl, ap, ◌∙◌, subst, arith}
+use mathlib.Core.Logic.{⊎_elim}
 use Rattle.script.specs.Tree.{Expr, number, word, name, assignment, call, sequence, conditional, logical, not, void, strict_equality}
 use Rattle.script.specs.Tree.{Exprs, no_exprs, expr_then}
 use Rattle.script.specs.Sound.{records_expr, records_exprs}
@@ -11,11 +12,15 @@ use Rattle.records.specs.Rows.{At}
 use Rattle.records.specs.Owned.{Short}
 use Rattle.records.specs.Readable.{tables}
 use Rattle.records.specs.Embedding.{exprs_row}
+use Rattle.records.specs.Turning.{expr_next}
+use Rattle.records.specs.Walked.{walked}
+use Rattle.records.proofs.Tables.{exprs_tabled}
+use Rattle.records.proofs.Walked.{walked_end, walked_node}
 use Rattle.hosts.specs.declared.reader.Decided.{Decided}
 use Rattle.hosts.specs.declared.reader.Decided.TheVariants.{Always, ByParts, Never}
 use Rattle.hosts.specs.Known.{reader_harmless, all_harmless}
 use Rattle.hosts.specs.Walked.{decision, spent, LeftBelow, WalksOne, WalksRow}
-use Rattle.hosts.proofs.Standing.{Found, found_within, found_there, none_found, kind_of, parts_of, stands, records_parts, ended, outside}
+use Rattle.hosts.proofs.Standing.{Found, found_there, none_found, kind_of, parts_of, stands, records_parts}
 
 abbrev by_decision : Decided → Bool → Bool
 by_decision Always b = true
@@ -87,9 +92,9 @@ decides_answer exprs x left r Never ss ds e h q s a n =
     let t : reader_harmless e ≡ false = harmless_decided e ∙ ap (λ (d : Decided). by_decision d (all_harmless (parts_of e))) q in
     h ∙ sym (ap (λ b. spent b (left + 1) (records_expr e)) t)
 
-pub walked : (exprs : List ExprRecord) (at budget left : ℕ) (x : ExprRecord) (r : Option ℕ) (d : Decided)
+pub walked_found : (exprs : List ExprRecord) (at budget left : ℕ) (x : ExprRecord) (r : Option ℕ) (d : Decided)
     → (1 ≤ budget) × (left ≡ budget - 1) → Found exprs at x → d ≡ decision x.kind → Decides exprs x left r d → WalksOne exprs at budget r
-walked exprs at budget left x r d p q k h = let u = p.0 in let v = p.1 in let b : left + 1 ≡ budget = omega arith in
+walked_found exprs at budget left x r d p q k h = let u = p.0 in let v = p.1 in let b : left + 1 ≡ budget = omega arith in
     subst (λ (n : ℕ). WalksOne exprs at n r) b (record {
       falls = decides_falls exprs x left r d h;
       answer = λ ss ds e w s a n.
@@ -108,72 +113,47 @@ walked_outside exprs at budget o = record {
   answer = λ ss ds e w s a n. let i = (stands (tables exprs ss ds) at e w a).within in let l = none_found exprs at o in absurd (omega arith);
 }
 
--- a walk along a row has come to a place with something left
-pub record Along (exprs : List ExprRecord) (row budget at left : ℕ) : Type 0 where
-  pub below : left ≤ budget
-  pub on : (ss : List StmtRecord) (ds : List DeclRecord) (es : Exprs) → Short (tables exprs ss ds)
-      → At (tables exprs ss ds) (expr_at row) (exprs_row es) → records_exprs es ≤ budget
-      → (fs : Exprs) × At (tables exprs ss ds) (expr_at at) (exprs_row fs) × (records_exprs fs ≤ left)
-      × (spent (all_harmless fs) left (records_exprs fs) ≡ spent (all_harmless es) budget (records_exprs es))
+spent_left : (b : Bool) (left n after : ℕ) → Some after ≡ spent b left n → after ≡ left - n
+spent_left true left n after h = cc
+spent_left false left n after h = cc
 
-spent_some : (b : Bool) (left n m : ℕ) → Some m ≡ spent b left n → (b ≡ true) × (m ≡ left - n)
-spent_some true left n m h = (refl, cc)
-spent_some false left n m h = (cc, let z : ◌≡◌ {A = ℕ} 0 1 = cc in absurd (omega arith))
+spent_both : (b c : Bool) (left n m after : ℕ) → Some after ≡ spent b left n → spent c after m ≡ spent (b && c) left (n + m)
+spent_both true true left n m after h = let q = spent_left true left n after h in let z : after - m ≡ left - (n + m) = omega arith in ap (λ k. Some k) z
+spent_both true false left n m after h = refl
+spent_both false c left n m after h = cc
 
-spent_none : (b : Bool) (left n : ℕ) → None ≡ spent b left n → b ≡ false
-spent_none true left n h = cc
-spent_none false left n h = refl
+none_both : (b c : Bool) (left n m : ℕ) → None ≡ spent b left n → None ≡ spent (b && c) left (n + m)
+none_both true c left n m h = cc
+none_both false c left n m h = refl
 
-pub along_on : (exprs : List ExprRecord) (row budget at left after : ℕ) (x : ExprRecord) → Along exprs row budget at left → Found exprs at x
-    → WalksOne exprs at left (Some after) → Along exprs row budget x.next after
-along_on exprs row budget at left after x g i h = record {
-  below = let f = h.falls in let b = g.below in omega arith;
-  on = λ ss ds es s a n. let o = g.on ss ds es s a n in
-      by ss ds s o.0 o.1 o.2 (spent (all_harmless es) budget (records_exprs es)) o.3;
-}
-  where
-    by : (ss : List StmtRecord) (ds : List DeclRecord) → Short (tables exprs ss ds) → (fs : Exprs) → At (tables exprs ss ds) (expr_at at) (exprs_row fs)
-        → records_exprs fs ≤ left → (r : Option ℕ) → spent (all_harmless fs) left (records_exprs fs) ≡ r
-        → (gs : Exprs) × At (tables exprs ss ds) (expr_at x.next) (exprs_row gs) × (records_exprs gs ≤ after)
-        × (spent (all_harmless gs) after (records_exprs gs) ≡ r)
-    by ss ds s no_exprs a n r q = let l = outside (tables exprs ss ds) at s a in let j = found_within exprs at x i in absurd (omega arith)
-    by ss ds s (expr_then e fs) a n r q =
-        let o = stands (tables exprs ss ds) at e (exprs_row fs) a in
-        let m : records_expr e ≤ left = omega arith in
-        let t = spent_some (reader_harmless e) left (records_expr e) after (h.answer ss ds e (exprs_row fs) s a m) in
-        let k = t.1 in (
-          fs,
-          subst (λ (y : ExprRecord). At (tables exprs ss ds) (expr_at y.next) (exprs_row fs)) (found_there exprs at x i) o.next,
-          omega arith,
-          again (reader_harmless e) (all_harmless fs) (records_exprs fs) t.0 (omega arith) ∙ q,
-        )
-      where
-        again : (b c : Bool) (u : ℕ) → b ≡ true → after - u ≡ left - (records_expr e + u) → spent c after u ≡ spent (b && c) left (records_expr e + u)
-        again true true u p v = ap (λ k. Some k) v
-        again true false u p v = refl
-        again false c u p v = cc
+-- the walks of these expressions, each with what the ones before it left, answer so
+abbrev pub WalksEach : List ExprRecord → List (ℕ × ExprRecord) → ℕ → Option ℕ → Type 0
+WalksEach exprs [] left r = r ≡ Some left
+WalksEach exprs (x ∷ xs) left r =
+    (WalksOne exprs x.0 left None × (r ≡ None)) ⊎ ((after : ℕ) × WalksOne exprs x.0 left (Some after) × WalksEach exprs xs after r)
 
-pub along_broke : (exprs : List ExprRecord) (row budget at left : ℕ) (x : ExprRecord) → Along exprs row budget at left → Found exprs at x
-    → WalksOne exprs at left None → WalksRow exprs row budget None
-along_broke exprs row budget at left x g i h = record {
-  falls = tt;
-  answer = λ ss ds es s a n. let o = g.on ss ds es s a n in by ss ds s o.0 o.1 o.2 ∙ o.3;
-}
-  where
-    by : (ss : List StmtRecord) (ds : List DeclRecord) → Short (tables exprs ss ds) → (fs : Exprs) → At (tables exprs ss ds) (expr_at at) (exprs_row fs)
-        → records_exprs fs ≤ left → None ≡ spent (all_harmless fs) left (records_exprs fs)
-    by ss ds s no_exprs a n = let l = outside (tables exprs ss ds) at s a in let j = found_within exprs at x i in absurd (omega arith)
-    by ss ds s (expr_then e fs) a n =
-        let m : records_expr e ≤ left = omega arith in
-        let t = spent_none (reader_harmless e) left (records_expr e) (h.answer ss ds e (exprs_row fs) s a m) in
-        sym (ap (λ b. spent (b && all_harmless fs) left (records_expr e + records_exprs fs)) t)
+-- so those along a row answer for the row: each spends some of what is left, so that is spent no later than the walk along the row ends
+each_told : (exprs : List ExprRecord) (ss : List StmtRecord) (ds : List DeclRecord) (r : Option ℕ) → Short (tables exprs ss ds) → (i n left : ℕ) (es : Exprs)
+    → At (tables exprs ss ds) (expr_at i) (exprs_row es) → records_exprs es ≤ left → left ≤ n → WalksEach exprs (walked expr_next exprs i n) left r
+    → r ≡ spent (all_harmless es) left (records_exprs es)
+each_told exprs ss ds r s i n left no_exprs a k l m =
+    let z : left ≡ left - 0 = omega arith in (rw (walked_end exprs_tabled (tables exprs ss ds) i n s a) at m) ∙ ap (λ k. Some k) z
+each_told exprs ss ds r s i zero left (expr_then e es) a k l m = let p = records_parts e in absurd (omega arith)
+each_told exprs ss ds r s i (suc n) left (expr_then e es) a k l m =
+    let o = stands (tables exprs ss ds) i e (exprs_row es) a in
+    ⊎_elim
+    (λ t. t.1 ∙ none_both (reader_harmless e) (all_harmless es) left (records_expr e) (records_exprs es) (t.0.answer ss ds e (exprs_row es) s a (omega arith)))
+    (λ t.
+    let q = t.1.answer ss ds e (exprs_row es) s a (omega arith) in
+    let d = t.1.falls in
+    let v = spent_left (reader_harmless e) left (records_expr e) t.0 q in
+    each_told exprs ss ds r s _ n t.0 es o.next (omega arith) (omega arith) t.2
+    ∙ spent_both (reader_harmless e) (all_harmless es) left (records_expr e) (records_exprs es) t.0 q)
+    (rw (walked_node exprs_tabled (tables exprs ss ds) i n o.within) at m)
 
-pub along_end : (exprs : List ExprRecord) (row budget at left : ℕ) → Along exprs row budget at left → None ≡ slice_get exprs at
-    → WalksRow exprs row budget (Some left)
-along_end exprs row budget at left g i = record {
-  falls = let b = g.below in omega arith;
-  answer = λ ss ds es s a n. let o = g.on ss ds es s a n in
-      let q = ended (tables exprs ss ds) at o.0 o.1 (none_found exprs at i) in
-      let z : left ≡ left - 0 = omega arith in
-      ap (λ m. Some m) z ∙ sym (ap (λ (fs : Exprs). spent (all_harmless fs) left (records_exprs fs)) q) ∙ o.3;
+pub each_walked : (exprs : List ExprRecord) (row budget : ℕ) (r : Option ℕ) → budget ≤ length exprs → LeftBelow (suc budget) r
+    → WalksEach exprs (walked expr_next exprs row (length exprs)) budget r → WalksRow exprs row budget r
+each_walked exprs row budget r b f m = record {
+  falls = f;
+  answer = λ ss ds es s a n. each_told exprs ss ds r s row (length exprs) budget es a n b m;
 }

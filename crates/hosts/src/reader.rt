@@ -1,5 +1,5 @@
 // The host that also knows what is made of harmless parts.
-ghost use Rattle.std.specs.Prelude.{◌≡◌};
+ghost use Rattle.std.specs.Prelude.{◌≡◌, ◌≤◌, length};
 ghost use Rattle.hosts.specs.Known.{reader, all_harmless, last_undefined, false_if};
 ghost use Rattle.hosts.specs.Asked.{AnswersRow};
 ghost use Rattle.hosts.specs.Walked.{decision, WalksOne, WalksRow, StepsLast, StepsTruth};
@@ -7,7 +7,7 @@ ghost use Rattle.hosts.specs.Laws.{reader_lawful};
 
 use crate::host::Host;
 use crate::literal::{kind_truth, record_at};
-use records::ExprRecord;
+use records::{ExprRecord, along};
 use script::ExpressionKind;
 use std::ops::ControlFlow;
 
@@ -38,6 +38,7 @@ fn decision(kind: ExpressionKind) -> Decided
 // The budget keeps the walk no longer than the table, whatever stands there.
 #[cycle(walk_walk_row)]
 fn walk(exprs: &[ExprRecord], at: u32, budget: usize) -> Option<usize>
+    requires { budget ≤ length exprs.now }
     ensures { WalksOne exprs.now at budget result }
 {
     let left = budget.checked_sub(1)?;
@@ -52,13 +53,12 @@ fn walk(exprs: &[ExprRecord], at: u32, budget: usize) -> Option<usize>
 // The same of a row of expressions.
 #[cycle(walk_walk_row)]
 fn walk_row(exprs: &[ExprRecord], row: u32, budget: usize) -> Option<usize>
+    requires { budget ≤ length exprs.now }
     ensures { WalksRow exprs.now row budget result }
 {
-    let mut at = row;
     let mut left = budget;
-    while let Some(expr) = record_at(exprs, at) {
+    for (at, _) in along(exprs, row) {
         left = walk(exprs, at, left)?;
-        at = expr.next;
     }
     Some(left)
 }

@@ -1,6 +1,6 @@
 -- The walk along the declarators finds the one that the rule merges into.
-use Rattle.std.proofs.Common.{◌≡◌, ℕ, ◌+◌, ◌<◌, ◌≤◌, Bool, true, false, cond, not, eqb, ◌≢◌, List, [], ◌∷◌, length, Option, None, Some, get_or, set}
-use Rattle.std.proofs.Common.{sym, refl, ap, ◌∙◌, subst, arith, eq-eqb, ne_eqb}
+use Rattle.std.proofs.Common.{◌≡◌, ℕ, zero, suc, ◌<◌, ◌≤◌, Bool, true, false, cond, not, eqb, List, [], ◌∷◌, length, Option, None, Some, get_or, set, fold}
+use Rattle.std.proofs.Common.{sym, refl, ap, ◌∙◌, arith, eq-eqb, ne_eqb}
 use Rattle.pool.specs.Chain.{nowhere}
 use Rattle.script.specs.declared.DeclarationKind.{DeclarationKind}
 use Rattle.script.specs.declared.DeclarationKind.TheVariants.{Const, Let, Var}
@@ -8,23 +8,24 @@ use Rattle.script.specs.Judge.{Spares}
 use Rattle.script.specs.Sound.{records_declarators}
 use Rattle.script.specs.Tree.{Declarators, Expr, OptionalExpr, absent, declarator_then, no_declarators, present}
 use Rattle.records.specs.declared.record.DeclRecord.{DeclRecord}
-use Rattle.records.specs.declared.record.ExprRecord.{ExprRecord}
 use Rattle.records.specs.declared.record.Pools.{Pools}
-use Rattle.records.specs.declared.record.StmtRecord.{StmtRecord}
 use Rattle.records.specs.Embedding.{declarators_row, expr_row, is_present, optional_row}
 use Rattle.records.specs.Heap.{Heap, Place, blank_decl, decl_at, expr_at}
 use Rattle.records.specs.Owned.{Owns, Root, Short}
-use Rattle.records.specs.Readable.{tables}
 use Rattle.records.specs.Rows.{At, end}
 use Rattle.rules.specs.Merging.{Merge, blocked, clear, merge_in_declarator, merge_in_later_or, merge_into_declarators, mergeable, merged}
 use Rattle.moves.specs.Moved.{Moved}
+use Rattle.records.specs.Walked.{walked}
 use Rattle.records.proofs.Balance.{balance}
 use Rattle.records.proofs.Moves.{end_out, pick}
+use Rattle.records.proofs.Tables.{decls_tabled}
+use Rattle.records.specs.Turning.{decl_next}
 use Rattle.records.proofs.Tallies.{lengths, records_declarators_row}
 use Rattle.moves.proofs.Frames.{arrange, regroup, stays}
 use Rattle.moves.proofs.Lenses.{inside_decl}
 use Rattle.moves.proofs.Open.{close_decl, label_name, name_of_decl, open_decl}
 use Rattle.moves.proofs.Rows.{expr_within}
+use Rattle.records.proofs.Walked.{walked_end, walked_node}
 use Rattle.merging.specs.Searched.{Searched, found, is_merged, later_or, leads, merged_roots, passed, place_or, searched, searched_here, stopped}
 
 -- a link leads to a value where there is one
@@ -39,70 +40,25 @@ place_step f passed here = refl
 place_step f stopped here = refl
 place_step f (found j) here = refl
 
--- n declarators of the row are passed; with what was found among them, the others lead to the same
-abbrev pub Along : List DeclRecord → DeclarationKind → Bool → ℕ → ℕ → ℕ → Option ℕ → ℕ → Type 0
-Along decls k l name names at f n =
-    (es : List ExprRecord) (ss : List StmtRecord) (ds : Declarators) → Short (tables es ss decls)
-    → At (tables es ss decls) (decl_at names) (declarators_row ds)
-    → (ds' : Declarators) × At (tables es ss decls) (decl_at at) (declarators_row ds')
-    × (place_or f (searched decls k l name ds' at) ≡ place_or None (searched decls k l name ds names))
-    × ((records_declarators ds').decls + n ≡ (records_declarators ds).decls)
+-- what is found with one declarator more
+abbrev pub found_with : DeclarationKind → Bool → ℕ → Option ℕ → ℕ × DeclRecord → Option ℕ
+found_with k l name f d = place_or f (searched_here k l (eqb d.1.name name) (leads d.1.value) d.0)
 
-module _ (decls : List DeclRecord) (k : DeclarationKind) (l : Bool) (name names at : ℕ) (f : Option ℕ) (n : ℕ) (inv : Along decls k l name names at f n) where
-  -- no declarator is left
-  pub at_last : at ≡ nowhere → (es : List ExprRecord) (ss : List StmtRecord) (ds : Declarators) → Short (tables es ss decls)
-      → At (tables es ss decls) (decl_at names) (declarators_row ds) → f ≡ place_or None (searched decls k l name ds names)
-  at_last z es ss ds s a = let q = inv es ss ds s a in by q.0 q.1 q.2
-    where
-      by : (ds' : Declarators) → At (tables es ss decls) (decl_at at) (declarators_row ds')
-          → place_or f (searched decls k l name ds' at) ≡ place_or None (searched decls k l name ds names)
-          → f ≡ place_or None (searched decls k l name ds names)
-      by no_declarators b e = e
-      by (declarator_then m v ds') b e = let w = b.0 in let u = s.decls in absurd (omega arith)
-
-  -- as many turns as there are records are enough
-  pub ran_out : (es : List ExprRecord) (ss : List StmtRecord) (ds : Declarators) → Short (tables es ss decls)
-      → At (tables es ss decls) (decl_at names) (declarators_row ds) → (records_declarators ds).decls ≤ n
-      → f ≡ place_or None (searched decls k l name ds names)
-  ran_out es ss ds s a c = let q = inv es ss ds s a in by q.0 q.2 q.3
-    where
-      by : (ds' : Declarators) → place_or f (searched decls k l name ds' at) ≡ place_or None (searched decls k l name ds names)
-          → (records_declarators ds').decls + n ≡ (records_declarators ds).decls → f ≡ place_or None (searched decls k l name ds names)
-      by no_declarators e m = e
-      by (declarator_then x v ds') e m = absurd (omega arith)
-
-  -- one declarator more is passed
-  pub one_along : (d : DeclRecord) → d ≡ get_or decls at blank_decl → at ≢ nowhere
-      → Along decls k l name names d.next (place_or f (searched_here k l (eqb d.name name) (leads d.value) at)) (n + 1)
-  one_along d z ne es ss ds s a =
-      subst (λ (y : DeclRecord). (ds' : Declarators) × At (tables es ss decls) (decl_at y.next) (declarators_row ds')
-      × (place_or (place_or f (searched_here k l (eqb y.name name) (leads y.value) at)) (searched decls k l name ds' y.next)
-      ≡ place_or None (searched decls k l name ds names))
-      × ((records_declarators ds').decls + (n + 1) ≡ (records_declarators ds).decls))
-      (sym z) (let q = inv es ss ds s a in by q.0 q.1 q.2 q.3)
-    where
-      y : DeclRecord
-      y = get_or decls at blank_decl
-
-      by : (ds' : Declarators) → At (tables es ss decls) (decl_at at) (declarators_row ds')
-          → place_or f (searched decls k l name ds' at) ≡ place_or None (searched decls k l name ds names)
-          → (records_declarators ds').decls + n ≡ (records_declarators ds).decls
-          → (ds'' : Declarators) × At (tables es ss decls) (decl_at y.next) (declarators_row ds'')
-          × (place_or (place_or f (searched_here k l (eqb y.name name) (leads y.value) at)) (searched decls k l name ds'' y.next)
-          ≡ place_or None (searched decls k l name ds names))
-          × ((records_declarators ds'').decls + (n + 1) ≡ (records_declarators ds).decls)
-      by no_declarators b e c = absurd (ne b)
-      by (declarator_then m v ds') b e c =
-          let e₁ : y.name ≡ m = ap label_name b.1 in
-          let e₂ : leads y.value ≡ is_present v = value_leads (tables es ss decls) y.value v s b.2 in (
-            ds',
-            b.5,
-            ap (λ (i : ℕ). place_or (place_or f (searched_here k l (eqb i name) (leads y.value) at)) (searched decls k l name ds' y.next)) e₁
-                ∙ ap (λ (t : Bool). place_or (place_or f (searched_here k l (eqb m name) t at)) (searched decls k l name ds' y.next)) e₂
-                ∙ sym (place_step f (searched decls k l name ds' y.next) (searched_here k l (eqb m name) (is_present v) at))
-                ∙ e,
-            omega arith,
-          )
+-- a walk along a row finds what the search finds
+pub walk_finds : (h : Heap) (k : DeclarationKind) (l : Bool) (name i n : ℕ) (f : Option ℕ) (ds : Declarators) → Short h
+    → At h (decl_at i) (declarators_row ds) → (records_declarators ds).decls ≤ n
+    → fold (found_with k l name) f (walked decl_next h.decls i n) ≡ place_or f (searched h.decls k l name ds i)
+walk_finds h k l name i n f no_declarators s a c = rw (walked_end decls_tabled h i n s a) refl
+walk_finds h k l name i zero f (declarator_then m v ds) s a c = absurd (omega arith)
+walk_finds h k l name i (suc n) f (declarator_then m v ds) s a c =
+    let y = get_or h.decls i blank_decl in
+    let e₁ : y.name ≡ m = ap label_name a.1 in
+    let e₂ : leads y.value ≡ is_present v = value_leads h y.value v s a.2 in
+    ap (fold (found_with k l name) f) (walked_node decls_tabled h i n a.0)
+    ∙ walk_finds h k l name y.next n (found_with k l name f (i, y)) ds s a.5 (omega arith)
+    ∙ ap (λ (b : ℕ). place_or (place_or f (searched_here k l (eqb b name) (leads y.value) i)) (searched h.decls k l name ds y.next)) e₁
+    ∙ ap (λ (t : Bool). place_or (place_or f (searched_here k l (eqb m name) t i)) (searched h.decls k l name ds y.next)) e₂
+    ∙ sym (place_step f (searched h.decls k l name ds y.next) (searched_here k l (eqb m name) (is_present v) i))
 
 -- the declarator at a place gets a value
 abbrev pub valued : Heap → ℕ → ℕ → Heap

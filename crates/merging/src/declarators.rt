@@ -20,7 +20,7 @@ ghost use Rattle.merging.specs.Searched.{is_merged, leads, merged_roots, place_o
 use moves::{record_at, set};
 use pool::NOWHERE;
 use predicates::is_literal_value;
-use records::{DeclRecord, ExprRecord};
+use records::{DeclRecord, ExprRecord, along};
 use script::DeclarationKind;
 
 // May a declarator of this kind, of the assigned name and without a value, take the value.
@@ -70,16 +70,9 @@ fn find_declarator(
         (records_declarators ds).decls ≤ length decls.now →
         result ≡ place_or None (searched decls.now kind literal name ds names) }
 {
-    let mut at = names;
     let mut found = None;
-    // A row has no more records than its table.
-    for _ in 0..decls.len() {
-        if at == NOWHERE {
-            return found;
-        }
-        let decl = record_at(decls, at);
+    for (at, decl) in along(decls, names) {
         found = look(kind, literal, name, decl, at, found);
-        at = decl.next;
     }
     found
 }

@@ -9,6 +9,7 @@ ghost use Rattle.moves.specs.Moved.{TurnsTable};
 use crate::cells::{record_at, set};
 use crate::table::Record;
 use pool::NOWHERE;
+use records::along;
 
 // Takes the first record off its row and puts it in front of another; the answer is what was behind it.
 pub fn relink<R: Record>(table: &mut [R], at: u32, row: u32) -> u32
@@ -62,15 +63,11 @@ pub fn last_of_row<R: Record>(table: &[R], row: u32) -> u32
     ensures { (n : ℕ) → n < length table.now → length table.now ≤ nowhere →
         Chain (map R.link table.now) row (suc n) → result ≡ links_on (map R.link table.now) row n }
 {
-    let mut at = row;
-    for _i in 0..table.len() {
-        let next = record_at(table, at).next();
-        if next == NOWHERE {
-            return at;
-        }
-        at = next;
+    let mut last = row;
+    for (at, _) in along(table, row) {
+        last = at;
     }
-    at
+    last
 }
 
 // Puts a row behind another that is not empty.

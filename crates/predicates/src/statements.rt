@@ -7,7 +7,7 @@ ghost use Rattle.predicates.specs.Within.{TellsBranchesWithin, TellsSome, TellsS
 
 use moves::record_at;
 use pool::NOWHERE;
-use records::StmtRecord;
+use records::{StmtRecord, along};
 use script::{DeclarationKind, StatementKind};
 
 // Whether any statement of a row is such. No row has more statements than the table has records.
@@ -15,15 +15,10 @@ fn any_of_row<F: Fn(u32) -> bool>(stmts: &[StmtRecord], row: u32, is_such: F) ->
     requires { F.IsAlwaysCallable is_such }
     ensures { TellsSome (F.post is_such) stmts.now row result }
 {
-    let mut at = row;
-    for _ in 0..stmts.len() {
-        if at == NOWHERE {
-            return false;
-        }
+    for (at, _) in along(stmts, row) {
         if is_such(at) {
             return true;
         }
-        at = record_at(stmts, at).next;
     }
     false
 }

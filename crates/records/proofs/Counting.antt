@@ -1,5 +1,5 @@
 -- A chain of links is as long as the row that it leads through.
-use Rattle.std.proofs.Common.{◌≡◌, ℕ, zero, suc, ◌<◌, ◌≤◌, ◌≢◌, List, map, length, get_or, sym, refl, ap, ◌∙◌, subst, arith}
+use Rattle.std.proofs.Common.{◌≡◌, ℕ, zero, suc, ◌<◌, ◌≤◌, List, map, length, get_or, sym, refl, ap, ◌∙◌, subst, arith}
 use lib.ListN.{length-map}
 use Rattle.std.proofs.lemmas.List.{get_or-map}
 use Rattle.pool.specs.Chain.{nowhere, Chain}
@@ -7,17 +7,6 @@ use Rattle.records.specs.Heap.{Cell, Heap, Place, cell, expr_at, stmt_at, decl_a
 use Rattle.records.specs.Rows.{Row, end, node, At, row_length}
 use Rattle.records.specs.TableOf.{TableOf, Tabled}
 use Rattle.records.proofs.Tables.{decls_tabled, exprs_tabled, stmts_tabled}
-
--- what a chain is at a place that is not nowhere
-pub record LinkedOn (links : List ℕ) (at n : ℕ) : Type 0 where
-  pub rest : ℕ
-  pub counted : n ≡ suc rest
-  pub within : at < length links
-  pub chain : Chain links (get_or links at 0) rest
-
-pub linked_on : (links : List ℕ) (at n : ℕ) → Chain links at n → at ≢ nowhere → LinkedOn links at n
-linked_on links at zero c h = absurd (h c)
-linked_on links at (suc n) c h = record { rest = n; counted = refl; within = c.0; chain = c.1 }
 
 pub chain_unique : (links : List ℕ) (at m n : ℕ) → length links ≤ nowhere → Chain links at m → Chain links at n → m ≡ n
 chain_unique links at zero zero s c d = refl

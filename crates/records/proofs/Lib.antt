@@ -9,3 +9,4 @@ pub mod Balance
 pub mod RowLengths
 pub mod Tables
 pub mod Counted
+pub mod Walked

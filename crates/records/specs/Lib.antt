@@ -8,3 +8,4 @@ pub mod Turning
 pub mod Holds
 pub mod Lent
 pub mod TableOf
+pub mod Walked

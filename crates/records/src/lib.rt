@@ -5,7 +5,9 @@
 mod lent;
 mod record;
 mod turning;
+mod walk;
 
 pub use lent::Lent;
 pub use record::{DeclRecord, Draft, ExprRecord, Pools, Stack, Stage, StmtRecord, Whole};
 pub use turning::{TurnedRow, turn};
+pub use walk::{Walk, along};

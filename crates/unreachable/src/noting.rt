@@ -15,9 +15,8 @@ ghost use Rattle.moves.specs.Lent.{heap};
 ghost use Rattle.unreachable.specs.Noted.{Notes, Noting, declarators_in, names_of_row, noted_with, statements_in, vars_of_kind, vars_of_row};
 
 use arrayvec::ArrayVec;
-use moves::{Tables, record_at};
-use pool::NOWHERE;
-use records::{DeclRecord, StmtRecord};
+use moves::Tables;
+use records::{DeclRecord, StmtRecord, along};
 use script::{DeclarationKind, StatementKind};
 
 // Which names were met, and the names in the order in which they were met.
@@ -45,14 +44,8 @@ fn note_declarators(decls: &[DeclRecord], row: u32, noted: &mut NotedNames)
         At (tables es ss decls.now) (decl_at row) z → row_length z ≤ length decls.now →
         Noting noted.old noted.new (names_of_row z) }
 {
-    let mut at = row;
-    for _i in 0..decls.len() {
-        if at == NOWHERE {
-            return;
-        }
-        let decl = record_at(decls, at);
+    for (_, decl) in along(decls, row) {
         note_name(noted, decl.name);
-        at = decl.next;
     }
 }
 
@@ -67,7 +60,8 @@ fn note_declaration(decls: &[DeclRecord], kind: StatementKind, row: u32, noted: 
     }
 }
 
-// Notes the names that a row of statements or cases declares by `var`, at any depth. `most` is at least the number of its records.
+// Notes the names that a row of statements or cases declares by `var`, at any depth. `most` is at least the number of its records,
+// and no more than the table has.
 fn note_vars(
     most: usize,
     stmts: &[StmtRecord],
@@ -75,19 +69,17 @@ fn note_vars(
     row: u32,
     noted: &mut NotedNames,
 )
+    requires { most ≤ length stmts.now }
     ensures { (es : List ExprEntry) (r : Row) → Short (tables es stmts.now decls.now) →
         At (tables es stmts.now decls.now) (stmt_at row) r → statements_in r ≤ most → declarators_in r ≤ length decls.now →
         Noting noted.old noted.new (vars_of_row r) }
 {
-    let mut at = row;
-    for _i in 0..most {
-        if at == NOWHERE {
-            return;
-        }
-        let stmt = record_at(stmts, at);
+    let Some(below) = most.checked_sub(1) else {
+        return;
+    };
+    for (_, stmt) in along(stmts, row) {
         note_declaration(decls, stmt.kind, stmt.decls, noted);
-        note_vars(most - 1, stmts, decls, stmt.stmts, noted);
-        at = stmt.next;
+        note_vars(below, stmts, decls, stmt.stmts, noted);
     }
 }
 

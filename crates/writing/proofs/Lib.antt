@@ -1,3 +1,4 @@
 pub mod TreeBytes
+pub mod Walks
 pub mod Writing
 pub mod Lengths

@@ -16,7 +16,7 @@ ghost use Rattle.records.specs.Owned.{Limited};
 ghost use Rattle.writing.specs.Bytes.{exprs_row_bytes, first_expr_bytes, decls_row_bytes, first_decl_bytes, Writable, Writes};
 
 use pool::{Linked, NOWHERE};
-use records::Lent;
+use records::{Lent, along};
 use script::{ExpressionKind, ForInit, StatementKind};
 
 // Puts one byte at a place; the answer is the place behind it.
@@ -112,32 +112,24 @@ fn put_body(out: &mut [u8], at: usize, stmts: u16) -> usize
 }
 
 // How many records a row has.
-fn count<R: Linked>(table: &[R], row: u32) -> u16
+fn count<R: Linked + Copy>(table: &[R], row: u32) -> u16
     requires short { length table.now ≤ nowhere }
     requires countable { Countable (map R.link table.now) row }
     ensures { Chain (map R.link table.now) row result }
 {
-    let mut at = row;
-    let mut count = 0;
-    while at != NOWHERE {
-        at = table[at as usize].next();
-        count += 1;
-    }
-    count
+    along(table, row).count() as u16
 }
 
-// Writes a row of expressions. Each table's rows have a loop of their own: one walk with a closure is no plainer,
-// since each closure has to require that its record is there and below the row, and the walk asks that of each call.
+// Writes a row of expressions. Each table's rows have a loop of their own: one loop with a closure is no plainer,
+// since each closure has to require that its record is there and below the row, and the loop asks that of each call.
 #[cycle(write_expr_write_exprs)]
 fn write_exprs(tables: Lent, row: u32, out: &mut [u8], from: usize) -> usize
     requires { Writable (heap tables) (expr_at row) }
     ensures { Writes exprs_row_bytes (heap tables.entry) (expr_at row) out.old from out.new result }
 {
-    let mut at = row;
     let mut end = from;
-    while at != NOWHERE {
+    for (at, _) in along(tables.exprs, row) {
         end = write_expr(tables, at, out, end);
-        at = tables.exprs[at as usize].next;
     }
     end
 }
@@ -160,11 +152,9 @@ fn write_decls(tables: Lent, row: u32, out: &mut [u8], from: usize) -> usize
     requires { Writable (heap tables) (decl_at row) }
     ensures { Writes decls_row_bytes (heap tables.entry) (decl_at row) out.old from out.new result }
 {
-    let mut at = row;
     let mut end = from;
-    while at != NOWHERE {
+    for (at, _) in along(tables.decls, row) {
         end = write_decl(tables, at, out, end);
-        at = tables.decls[at as usize].next;
     }
     end
 }
@@ -187,11 +177,9 @@ fn write_stmts(tables: Lent, row: u32, out: &mut [u8], from: usize) -> usize
     requires { Writable (heap tables) (stmt_at row) }
     ensures { Writes stmts_row_bytes (heap tables.entry) (stmt_at row) out.old from out.new result }
 {
-    let mut at = row;
     let mut end = from;
-    while at != NOWHERE {
+    for (at, _) in along(tables.stmts, row) {
         end = write_stmt(tables, at, out, end);
-        at = tables.stmts[at as usize].next;
     }
     end
 }

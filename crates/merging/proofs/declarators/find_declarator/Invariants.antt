@@ -1,5 +1,10 @@
-use Rattle.merging.proofs.Searching.{Along}
+use Rattle.std.proofs.Common.{◌≡◌, None, fold, length}
+use Rattle.records.specs.Turning.{decl_next}
+use Rattle.records.specs.Walked.{ahead, walked}
+use Rattle.merging.proofs.Searching.{found_with}
 use Rattle.merging.proofs.declarators.find_declarator.Given as goal
 
-abbrev pub invariant-loop : goal.invariant-loop
-invariant-loop l = Along l.decls l.kind l.literal l.name l.names l.at l.found l.counter
+abbrev pub invariant-loop-at : goal.invariant-loop-at
+invariant-loop-at l =
+    fold (found_with l.kind l.literal l.name) l.found (ahead decl_next l.at-iterator)
+    ≡ fold (found_with l.kind l.literal l.name) None (walked decl_next l.decls l.names (length l.decls))

@@ -1,8 +1,15 @@
-use Rattle.unreachable.proofs.Walks.{AlongStmts}
+use Rattle.std.proofs.Common.{length}
+use Rattle.records.specs.Turning.{stmt_next}
+use Rattle.records.specs.Walked.{ahead, walked}
+use Rattle.unreachable.specs.declared.noting.NotedNames.{NotedNames}
+use Rattle.unreachable.proofs.Walks.{NotingStmts}
 use Rattle.unreachable.proofs.noting.+note_vars.Given as goal
 
 abbrev pub decreases-note_vars : goal.decreases-note_vars
 decreases-note_vars l = l.most
 
-abbrev pub invariant-loop-i : goal.invariant-loop-i
-invariant-loop-i l = AlongStmts l.stmts l.decls l.row l.at l.initial.noted l.noted l.most l._i
+-- noting those that are left notes all
+abbrev pub invariant-loop-stmt : goal.invariant-loop-stmt
+invariant-loop-stmt l =
+    (after : NotedNames) → NotingStmts l.stmts l.decls l.below l.noted (ahead stmt_next l.stmt-iterator) after
+    → NotingStmts l.stmts l.decls l.below l.fn.noted (walked stmt_next l.stmts l.row (length l.stmts)) after

@@ -1,6 +1,9 @@
 use Rattle.std.proofs.Common.{◌+◌, ◌*◌}
 use Rattle.records.specs.Heap.{expr_at}
 use Rattle.records.specs.Lent.{heap}
+use Rattle.records.specs.TableOf.{expr_table}
+use Rattle.records.specs.Turning.{expr_next}
+use Rattle.records.specs.Walked.{ahead}
 use Rattle.writing.specs.Bytes.{exprs_row_bytes, weight}
 use Rattle.writing.proofs.Writing.{Going}
 use Rattle.writing.proofs.bytes.+write_expr_write_exprs.Given as goal
@@ -13,7 +16,4 @@ decreases-write_exprs l = 2 * weight (heap l.tables) (expr_at l.row) + 1
 
 abbrev pub invariant-write_exprs-loop-at : goal.invariant-write_exprs-loop-at
 invariant-write_exprs-loop-at l =
-    Going exprs_row_bytes (heap l.tables) (expr_at l.row) (expr_at l.at) l.initial.out l.from l.out l.end
-
-abbrev pub decreases-write_exprs-loop-at : goal.decreases-write_exprs-loop-at
-decreases-write_exprs-loop-at l = weight (heap l.tables) (expr_at l.at)
+    Going expr_table exprs_row_bytes (heap l.tables) l.row (ahead expr_next l.at-iterator) l.initial.out l.from l.out l.end
