@@ -1,5 +1,5 @@
 // The rows of branches: two in the other order, a record given back for the parts of it.
-// A routine is lent the tables that it works on and no others: those are known to stay with no clause.
+// A routine is lent slices of the tables that it works on: what it is not lent is known to stay, with no clause.
 ghost use Rattle.std.specs.Prelude.{◌≡◌, List, [], ◌∷◌};
 ghost use Rattle.pool.specs.declared.Pool.{Pool as Spare};
 ghost use Rattle.script.specs.Tree.{Expr, Stmt, expression, not};

@@ -1,5 +1,5 @@
 // The rules on an `if` that was taken apart.
-// A routine is lent the tables that it works on and no others: those are known to stay with no clause.
+// A routine is lent slices of the tables that it works on: what it is not lent is known to stay, with no clause.
 ghost use Rattle.std.specs.Prelude.{true, List, [], ◌∷◌, ◌≡◌, ◌≤◌};
 ghost use Rattle.script.specs.declared.LogicalOperator.TheVariants.{And};
 ghost use Rattle.script.specs.Tree.{Alternate, Expr, Stmt, expression, if_then, no_alternate};

@@ -1,5 +1,5 @@
 // Statements written at a place that is free, and braces.
-// A routine is lent the tables that it works on and no others: those are known to stay with no clause.
+// A routine is lent slices of the tables that it works on: what it is not lent is known to stay, with no clause.
 ghost use Rattle.std.specs.Prelude.{List, [], ◌∷◌, ◌≤◌};
 ghost use Rattle.pool.specs.declared.Pool.{Pool as Spare};
 ghost use Rattle.script.specs.Tree.{Alternate, Expr, Stmt, block, empty, expression, if_then, no_stmts, stmt_then};

@@ -1,5 +1,5 @@
 // The rule on blocks: a list of statements is opened into the results where none of them declares a name of the block's own.
-// A routine is lent the tables that it works on and no others: those are known to stay with no clause.
+// A routine is lent slices of the tables that it works on: what it is not lent is known to stay, with no clause.
 ghost use Rattle.std.specs.Prelude.{not as negated, List, [], ◌∷◌};
 ghost use Rattle.script.specs.Tree.{Stmts};
 ghost use Rattle.records.specs.declared.record.DeclRecord.{DeclRecord as DeclEntry};
@@ -19,7 +19,7 @@ use records::{Pools, StmtRecord};
 use script::StatementKind;
 
 // The results after a block, and whether its statements are among them now.
-// Two variants that each hold the results would be no plainer: every caller goes on with them.
+// Two variants that each hold the results would be no plainer: whichever it is, one goes on with them.
 #[derive(Clone, Copy)]
 pub struct Opened {
     pub results: u32,

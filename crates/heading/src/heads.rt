@@ -1,5 +1,5 @@
 // The rule on `for`: its head takes in the newest results.
-// A routine is lent the tables that it works on and no others: those are known to stay with no clause.
+// A routine is lent slices of the tables that it works on: what it is not lent is known to stay, with no clause.
 ghost use Rattle.std.specs.Prelude.{◌≡◌, ◌+◌, ◌≤◌, ◌&&◌, List, [], ◌∷◌, slice_index_or};
 ghost use Rattle.script.specs.declared.DeclarationKind.{DeclarationKind as Declaring};
 ghost use Rattle.script.specs.Tree.{Declarators, Expr, Init, OptionalExpr, Stmt, Stmts, absent, declaration, expression, for, init_expression, stmt_then};
@@ -167,6 +167,7 @@ fn head_after_leading(sequences: bool, tables: &mut Tables, front: Front) -> Fro
         result (worked_head sequences e r) w y }
 {
     let behind = detach(tables.exprs, front.values);
+    // A field cannot be lent to read beside one that is lent to write, so the statements are borrowed by themselves.
     let stmts = &mut *tables.stmts;
     let worked = merge_leading_assignments_to_declaration(
         true,

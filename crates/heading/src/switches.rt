@@ -1,5 +1,5 @@
 // The rule on `switch`: the discriminant takes in what stands before it, and a single case is inlined.
-// A routine is lent the tables that it works on and no others: those are known to stay with no clause.
+// A routine is lent slices of the tables that it works on: what it is not lent is known to stay, with no clause.
 ghost use Rattle.std.specs.Prelude.{◌≡◌, ◌≤◌, List, [], ◌∷◌, length};
 ghost use Rattle.script.specs.Sound.{records_cases, records_optional};
 ghost use Rattle.script.specs.Tree.{Cases, Expr, OptionalExpr, Stmts, if_then, no_alternate, strict_equality, switch};
@@ -249,6 +249,7 @@ pub fn handle_switch_statement(
         discriminant,
         results,
     );
+    // A field cannot be lent to read beside one that is lent to write, so the statements are borrowed by themselves.
     let stmts = &mut *tables.stmts;
     let worked = merge_leading_assignments_to_declaration(
         false,

@@ -1,5 +1,5 @@
 // The last item of an expression, and what is made of it in place.
-// A routine is lent the tables that it works on and no others: those are known to stay with no clause.
+// A routine is lent slices of the tables that it works on: what it is not lent is known to stay, with no clause.
 ghost use Rattle.std.specs.Prelude.{◌≡◌, List, [], ◌∷◌, ◌≤◌, length};
 ghost use Rattle.script.specs.Sound.{records_expr};
 ghost use Rattle.script.specs.Tree.{Expr};
@@ -26,7 +26,7 @@ pub fn last_item(exprs: &[ExprRecord], at: u32) -> u32
         expr_at result ≡ last_item_place (tables exprs.now ss ds) (expr_at at) e }
 {
     let mut last = at;
-    // Rows are linked by numbers: as many turns as there are records end any walk along them.
+    // Each turn goes down into a sequence, so as many turns as there are records are enough.
     for _ in 0..exprs.len() {
         let item = record_at(exprs, last);
         let ExpressionKind::Sequence = item.kind else {

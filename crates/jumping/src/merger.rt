@@ -1,5 +1,5 @@
 // A jump takes in the newest results that are an `if` around the same jump.
-// A routine is lent the tables that it works on and no others: those are known to stay with no clause.
+// A routine is lent slices of the tables that it works on: what it is not lent is known to stay, with no clause.
 ghost use Rattle.std.specs.Prelude.{◌≤◌, true, List, [], ◌∷◌};
 ghost use Rattle.script.specs.Tree.{Expr, Stmts};
 ghost use Rattle.records.specs.declared.record.DeclRecord.{DeclRecord as DeclEntry};

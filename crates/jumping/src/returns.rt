@@ -1,5 +1,5 @@
 // The rule on return.
-// A routine is lent the tables that it works on and no others: those are known to stay with no clause.
+// A routine is lent slices of the tables that it works on: what it is not lent is known to stay, with no clause.
 ghost use Rattle.std.specs.Prelude.{◌≤◌, List, [], ◌∷◌, if◌then◌else◌};
 ghost use Rattle.script.specs.Tree.{Expr, OptionalExpr, Stmts, return_of};
 ghost use Rattle.records.specs.declared.record.DeclRecord.{DeclRecord as DeclEntry};
@@ -121,6 +121,7 @@ pub fn handle_return_statement<H: Host>(
         (stmt_at at ∷ []) ((expr_at value, optional_row v end) ∷ (stmt_at results, stmts_row r) ∷ [])
         ((stmt_at result, stmts_row (handle_return_statement sequences (H.meaning host.now) (holder_of holder) v r)) ∷ []) }
 {
+    // A field cannot be lent to read beside one that is lent to write, so the statements are borrowed by themselves.
     let stmts = &mut *tables.stmts;
     let merged = merge_leading_into_declaration(
         tables.exprs,

@@ -35,6 +35,7 @@ pub fn handle_throw_statement(
         value,
         results,
     );
+    // A field cannot be lent to read beside one that is lent to write, so the statements are borrowed by themselves.
     let stmts = &mut *tables.stmts;
     let worked = merge_leading_assignments_to_declaration(
         false,

@@ -1,5 +1,5 @@
 // Declarations.
-// A routine is lent the tables that it works on and no others: those are known to stay with no clause.
+// A routine is lent slices of the tables that it works on: what it is not lent is known to stay, with no clause.
 ghost use Rattle.std.specs.Prelude.{◌≡◌, List, [], ◌∷◌};
 ghost use Rattle.script.specs.Tree.{Declarators, Stmts, declaration};
 ghost use Rattle.records.specs.declared.record.ExprRecord.{ExprRecord as ExprEntry};
@@ -127,7 +127,7 @@ pub fn handle_variable_declaration(
         (stmt_at at ∷ []) ((decl_at names, declarators_row ds) ∷ (stmt_at results, stmts_row r) ∷ [])
         ((stmt_at result, stmts_row (handle_variable_declaration join_vars kind ds r)) ∷ []) }
 {
-    // Read beside what is written, the statements are borrowed by themselves.
+    // A field cannot be lent to read beside one that is lent to write, so the statements are borrowed by themselves.
     let stmts = &mut *tables.stmts;
     let before = merge_first_value(
         tables.exprs,

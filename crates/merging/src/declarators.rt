@@ -1,7 +1,7 @@
 // The declarator that takes an assigned value. The search goes from the last declarator back, and stops at one that has a
 // value, at one of the assigned name, and at any in a let or const. Rows are linked from the first on: so a walk forward
 // keeps what the last stop says.
-// A routine is lent the tables that it works on and no others: those are known to stay with no clause.
+// A routine is lent slices of the tables that it works on: what it is not lent is known to stay, with no clause.
 ghost use Rattle.std.specs.Prelude.{◌≡◌, ◌≤◌, List, ◌∷◌, length, ◌==◌, None};
 ghost use Rattle.script.specs.Sound.{records_declarators};
 ghost use Rattle.script.specs.Tree.{Declarators, Expr};

@@ -1,5 +1,5 @@
 // The leading assignments of an expression go into the declaration before it.
-// A routine is lent the tables that it works on and no others: those are known to stay with no clause.
+// A routine is lent slices of the tables that it works on: what it is not lent is known to stay, with no clause.
 ghost use Rattle.std.specs.Prelude.{◌≡◌, ◌||◌, List, [], ◌∷◌, is_some, unwrap_or};
 ghost use Rattle.script.specs.Tree.{Declarators, Expr, Exprs, Stmts};
 ghost use Rattle.records.specs.declared.record.DeclRecord.{DeclRecord as DeclEntry};

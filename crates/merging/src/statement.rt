@@ -1,5 +1,5 @@
 // Expression statements.
-// A routine is lent the tables that it works on and no others: those are known to stay with no clause.
+// A routine is lent slices of the tables that it works on: what it is not lent is known to stay, with no clause.
 ghost use Rattle.std.specs.Prelude.{List, [], ◌∷◌};
 ghost use Rattle.script.specs.Tree.{Expr, OptionalExpr, Stmts, expression};
 ghost use Rattle.records.specs.declared.record.DeclRecord.{DeclRecord as DeclEntry};
@@ -73,7 +73,7 @@ pub fn handle_expression_statement(
         expr,
         results,
     );
-    // Read beside what is written, the statements are borrowed by themselves.
+    // A field cannot be lent to read beside one that is lent to write, so the statements are borrowed by themselves.
     let stmts = &mut *tables.stmts;
     let worked = merge_leading_assignments_to_declaration(
         true,

@@ -4,6 +4,7 @@ ghost use Rattle.pool.specs.Chain.{Chain, nowhere};
 ghost use Rattle.records.specs.Heap.{Label};
 ghost use Rattle.records.specs.Rows.{Row, end, node};
 ghost use Rattle.moves.specs.Front.{in_front, links_on, turned_onto};
+ghost use Rattle.moves.specs.Last.{IsLast};
 ghost use Rattle.moves.specs.Moved.{TurnsTable};
 
 use crate::cells::{record_at, set};
@@ -60,8 +61,9 @@ pub fn push_all<R: Record>(table: &mut [R], row: u32, onto: u32) -> u32
 
 // The last place of a row that is not empty.
 pub fn last_of_row<R: Record>(table: &[R], row: u32) -> u32
-    ensures { (n : ℕ) → n < length table.now → length table.now ≤ nowhere →
+    ensures chain { (n : ℕ) → n < length table.now → length table.now ≤ nowhere →
         Chain (map R.link table.now) row (suc n) → result ≡ links_on (map R.link table.now) row n }
+    ensures row { IsLast R.table_of table.now row result }
 {
     let mut last = row;
     for (at, _) in along(table, row) {

@@ -12,7 +12,7 @@ pub struct Tables<'a> {
     pub pools: Pools,
 }
 
-// A field of lent tables that is lent on to be read is not known to stay, so what reads them borrows them whole.
+// With a field lent on to be read, the proof did not close: it is not known to stay. So what reads the tables borrows them whole.
 impl Tables<'_> {
     pub fn stmts(&self) -> &[StmtRecord]
         ensures { result.now ≡ self.now.stmts.now }

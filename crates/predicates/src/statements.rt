@@ -10,7 +10,7 @@ use pool::NOWHERE;
 use records::{StmtRecord, along};
 use script::{DeclarationKind, StatementKind};
 
-// Whether any statement of a row is such. No row has more statements than the table has records.
+// Whether any statement of a row is such.
 fn any_of_row<F: Fn(u32) -> bool>(stmts: &[StmtRecord], row: u32, is_such: F) -> bool
     requires { F.IsAlwaysCallable is_such }
     ensures { TellsSome (F.post is_such) stmts.now row result }

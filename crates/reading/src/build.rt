@@ -11,7 +11,7 @@ ghost use Rattle.reading.specs.Building.{Took, PutExpr, PutDeclarator, EnoughCou
 use crate::making::Parts;
 use faults::{ReadFault, SheetFault};
 use pool::{Linked, NOWHERE, Pool};
-use records::{DeclRecord, Draft, ExprRecord, Stack, Stage, StmtRecord, turn};
+use records::{DeclRecord, Draft, ExprRecord, Stack, Stage, StmtRecord, along, turn};
 use script::{Awaiting, DeclarationKind, ExpressionKind, StatementKind, Table};
 use shapes::{DeclSurvey, StmtSurvey, fits_stmt, kind_declared, surveyed};
 
@@ -148,7 +148,7 @@ const NOTHING_SEEN: StmtSurvey = StmtSurvey {
     lexicals: 0,
 };
 
-// What the topmost statements are. A stack is linked records, so there is no slice of them to go over.
+// What the topmost statements are.
 fn survey_top(stmts: &[StmtRecord], top: u32, count: u32) -> Surveyed
     ensures { (es : ExprTable) (ds : DeclTable) (s : Row) → Surveys es stmts.now ds top count s end nothing_seen → SurveyedAs result (front count s end) }
 {
@@ -156,17 +156,12 @@ fn survey_top(stmts: &[StmtRecord], top: u32, count: u32) -> Surveyed
         survey: NOTHING_SEEN,
         first: None,
     };
-    let mut at = top;
-    for _ in 0..count {
-        let Some(record) = stmts.get(at as usize) else {
-            return seen;
-        };
+    for (_, record) in along(stmts, top).take(count as usize) {
         let tests = u32::from(record.exprs != NOWHERE);
         seen = Surveyed {
             survey: surveyed(record.kind, tests, seen.survey),
             first: kind_declared(record.kind),
         };
-        at = record.next;
     }
     seen
 }
@@ -176,14 +171,9 @@ fn decl_survey_top(decls: &[DeclRecord], top: u32, count: u32) -> DeclSurvey
     ensures { (es : ExprTable) (ss : StmtTable) (s : Row) → DeclSurveys es ss decls.now top count s end no_decls_seen → result ≡ decl_survey (front count s end) }
 {
     let mut seen = DeclSurvey { count: 0, bare: 0 };
-    let mut at = top;
-    for _ in 0..count {
-        let Some(record) = decls.get(at as usize) else {
-            return seen;
-        };
+    for (_, record) in along(decls, top).take(count as usize) {
         seen.count += 1;
         seen.bare += u32::from(record.value == NOWHERE);
-        at = record.next;
     }
     seen
 }

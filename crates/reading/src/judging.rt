@@ -1,5 +1,6 @@
 // Judging: bytes are judged one after another, and the tables hold what was taken.
-// The tables come as slices, as what is made is put into them.
+// The tables that are written come as slices: of a struct of them each contract would have to say besides that they
+// are the same slices afterwards, and as long.
 ghost use Rattle.std.specs.Prelude.{◌≡◌, length};
 ghost use Rattle.script.specs.Judge.{Model, judge, judge_all, settled};
 ghost use Rattle.script.specs.Stacks.{perform};

@@ -10,7 +10,7 @@ use script::{
 };
 
 // A byte that is not refused: the command awaits more, or it is whole.
-// Neither case is a failure, so this is an enum of its own and no `Result`.
+// Neither case is a failure, and bytes go on after both, so this is an enum of its own and no `Result` or `ControlFlow`.
 #[derive(Clone, Copy)]
 pub enum Step {
     Await(Awaiting),

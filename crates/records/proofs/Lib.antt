@@ -9,4 +9,5 @@ pub mod Balance
 pub mod RowLengths
 pub mod Tables
 pub mod Counted
+pub mod Fits
 pub mod Walked

@@ -1,5 +1,6 @@
 // Copying: the whole task in one call. Bytes are fed to a fresh draft, which is closed and written, up to the first refusal.
-// The tables that are written come as slices, which a caller has and keeps: a struct of them would have to be handed back.
+// The tables that are written come as slices: of a struct of them each contract would have to say besides that they
+// are the same slices afterwards, and as long.
 ghost use Rattle.std.specs.Prelude.{◌≡◌, true, length, nat_le};
 ghost use Rattle.script.specs.Tree.{Stmts};
 ghost use Rattle.script.specs.Judge.{Model, fresh, judge_all};

@@ -1,5 +1,6 @@
 // Feeding: bytes are judged one after another, and the tables hold what was taken.
-// The tables that are written come as slices, which a caller has and keeps: a struct of them would have to be handed back.
+// The tables that are written come as slices: of a struct of them each contract would have to say besides that they
+// are the same slices afterwards, and as long.
 ghost use Rattle.std.specs.Prelude.{◌≡◌};
 ghost use Rattle.records.specs.Readable.{tables};
 ghost use Rattle.sheet.specs.Calls.{sizes_of, Feeds, ReadsTaken};

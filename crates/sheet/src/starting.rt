@@ -1,5 +1,6 @@
 // Starting: a fresh draft with every record spare.
-// The tables that are written come as slices, which a caller has and keeps: a struct of them would have to be handed back.
+// The tables that are written come as slices: of a struct of them each contract would have to say besides that they
+// are the same slices afterwards, and as long.
 ghost use Rattle.std.specs.Prelude.{◌≡◌};
 ghost use Rattle.records.specs.Readable.{tables};
 ghost use Rattle.sheet.specs.Calls.{sizes_of, Starts};

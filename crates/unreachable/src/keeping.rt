@@ -1,5 +1,5 @@
 // What is kept of the statements behind a jump.
-// A routine is lent the tables that it works on and no others: those are known to stay with no clause.
+// A routine is lent slices of the tables that it works on: what it is not lent is known to stay, with no clause.
 ghost use Rattle.std.specs.Prelude.{ℕ, ◌≤◌, List, [], ◌∷◌, length, if◌then◌else◌};
 ghost use Rattle.script.specs.Tree.{Declarators, Stmt, Stmts, absent, declarator_then, stmt_then};
 ghost use Rattle.records.specs.declared.record.ExprRecord.{ExprRecord as ExprEntry};

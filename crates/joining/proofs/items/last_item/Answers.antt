@@ -13,7 +13,7 @@ pub loop-preserved : goal.loop-preserved
 loop-preserved c =
     into_last _ _ _ _ c.loop.invariant c.last_of_row-last.result
     (sym (rw c.record_at-item.ensures at c.in-Sequence.is))
-    (last_told _ _ _ (rw c.record_at-item.ensures at c.last_of_row-last.ensures))
+    (last_told _ _ _ (rw c.record_at-item.ensures at c.last_of_row-last.ensures.chain))
 
 pub returns : goal.returns
 returns c ss ds e w s a l =

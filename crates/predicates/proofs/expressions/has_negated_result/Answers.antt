@@ -22,7 +22,7 @@ pub loop-preserved : goal.loop-preserved
 loop-preserved c =
     reached_next has_negated_result c.args.exprs.now c.args.at c.loop.part c.loop.counter c.loop.invariant
     (into_last c.args.exprs.now c.loop.part c.last_of_row-part.result c.record_at-expr.result c.record_at-expr.ensures (sym c.in-Sequence.is)
-    (last_told c.args.exprs.now c.record_at-expr.result.first c.last_of_row-part.result c.last_of_row-part.ensures))
+    (last_told c.args.exprs.now c.record_at-expr.result.first c.last_of_row-part.result c.last_of_row-part.ensures.chain))
 
 pub returns : goal.returns
 returns c =

@@ -1,23 +1,24 @@
-use Rattle.std.proofs.Common.{◌≡◌, suc, ◌+◌, ◌-◌, eqb, inr, arith}
+use Rattle.std.proofs.Common.{◌∙◌, sym, fold, ap, eqb, arith}
 use Rattle.pool.specs.Chain.{nowhere}
-use Rattle.records.specs.Heap.{blank_decl}
-use Rattle.reading.proofs.Looking.{byte_at_most, stop_decls, step_decls}
+use Rattle.records.specs.Turning.{decl_next}
+use Rattle.records.specs.Walked.{ahead}
+use Rattle.reading.specs.Surveying.{no_decls_seen}
+use Rattle.reading.proofs.Looking.{byte_at_most, decl_sees, decls_seen, none_taken, one_taken}
 use Rattle.reading.proofs.build.decl_survey_top.Goals as goal
 
-pub returns-in_default : goal.returns-in_default
-returns-in_default c es ss s h =
-    stop_decls es ss c.args.decls.now c.loop.at (c.args.count - c.loop.counter) c.loop.seen _
-    (c.loop.invariant.looking es ss s h) (inr c.in_default.ensures.lookup.3)
+pub returns : goal.returns
+returns c es ss s h =
+    let all = rw (none_taken c.loop-record.record-iterator.n (ahead decl_next c.loop-record.record-iterator.iter) (λ e. (c.in-None.ensures.steps e).0))
+    at c.loop-record.invariant.seen in
+    all ∙ decls_seen es ss c.args.decls.now c.args.top c.args.count s _ no_decls_seen h
 
-pub loop-preserved : goal.loop-preserved
-loop-preserved c =
-    let v = c.in-Some.record.now in
-    record {
+pub loop-record-preserved : goal.loop-record-preserved
+loop-record-preserved c =
+    let l = c.loop-record in
+    let e = c.in-Some.ensures.steps in
+    let f = e.1 in
+    rw c.from.ensures (record {
       count = omega arith;
-      bare = (let one = byte_at_most (eqb v.value nowhere) in omega (arith, c.from.ensures));
-      looking = (λ es ss s h.
-          let test = c.loop-test.true in
-          let e : c.args.count - c.loop.counter ≡ suc (c.args.count - (c.loop.counter + 1)) = omega arith in
-          step_decls es ss c.args.decls.now c.loop.at _ _ c.loop.seen _ c.from.result v
-          (c.loop.invariant.looking es ss s h) e (c.in-Some.ensures.lookup.3.1 blank_decl) c.from.ensures);
-    }
+      bare = (let one = byte_at_most (eqb c.in-Some.record.value nowhere) in omega arith);
+      seen = sym (ap (fold decl_sees l.seen) (one_taken l.record-iterator.n _ _ _ _ e.0 e.1)) ∙ l.invariant.seen;
+    })

@@ -1,13 +1,13 @@
-use Rattle.std.proofs.Common.{◌-◌}
-use Rattle.records.specs.Rows.{Row, end}
-use Rattle.records.specs.Turning.{front}
-use Rattle.reading.specs.Surveying.{ExprTable, DeclTable, Surveys, nothing_seen}
-use Rattle.reading.proofs.Looking.{Counted, Looking}
+use Rattle.std.proofs.Common.{◌≡◌, fold, take, length}
+use Rattle.records.specs.Turning.{stmt_next}
+use Rattle.records.specs.Walked.{ahead, walked}
+use Rattle.reading.specs.Surveying.{nothing_seen}
+use Rattle.reading.proofs.Looking.{Counted, sees}
 use Rattle.reading.proofs.build.survey_top.Given as goal
 
-abbrev pub invariant-loop : goal.invariant-loop
-invariant-loop l = record {
-  counted : Counted l.counter l.seen.survey;
-  looking : (es : ExprTable) (ds : DeclTable) (s : Row) → Surveys es l.stmts ds l.top l.count s end nothing_seen →
-      Looking es l.stmts ds l.at (l.count - l.counter) l.seen (front l.count s end);
+abbrev pub invariant-loop-record : goal.invariant-loop-record
+invariant-loop-record l = record {
+  counted : Counted l.record-iterator.n l.count l.seen.survey;
+  seen : fold sees l.seen (take l.record-iterator.n (ahead stmt_next l.record-iterator.iter))
+      ≡ fold sees nothing_seen (take l.count (walked stmt_next l.stmts l.top (length l.stmts)));
 }
