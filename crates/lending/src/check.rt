@@ -101,15 +101,15 @@ fn mark_decls(
 
 // Marks a row of expressions and a row of declarators.
 fn mark_parts(
-    tables: Lent,
+    tables: &Lent,
     marks_exprs: &mut [u8],
     marks_decls: &mut [u8],
     at_exprs: u32,
     at_decls: u32,
 ) -> Option<Parts>
-    requires exprs { (length tables.exprs.now ≤ nowhere) × (length marks_exprs.old ≡ length tables.exprs.now) }
-    requires decls { (length tables.decls.now ≤ nowhere) × (length marks_decls.old ≡ length tables.decls.now) }
-    ensures { MarksParts result tables.entry.exprs.now tables.entry.decls.now marks_exprs.old marks_decls.old at_exprs at_decls marks_exprs.new marks_decls.new }
+    requires exprs { (length tables.now.exprs.now ≤ nowhere) × (length marks_exprs.old ≡ length tables.now.exprs.now) }
+    requires decls { (length tables.now.decls.now ≤ nowhere) × (length marks_decls.old ≡ length tables.now.decls.now) }
+    ensures { MarksParts result tables.now.exprs.now tables.now.decls.now marks_exprs.old marks_decls.old at_exprs at_decls marks_exprs.new marks_decls.new }
 {
     Some(Parts {
         exprs: mark_exprs(tables.exprs, marks_exprs, at_exprs)?,
@@ -151,17 +151,17 @@ fn weighed(
     fits.then(|| surveyed(record.kind, parts.exprs, survey))
 }
 
-// Marks a row of statements and all their parts.
+// Marks a row of statements and all their parts. The tables come by reference, since each level of a deep sheet is a call of this.
 fn mark_stmts(
-    tables: Lent,
+    tables: &Lent,
     marks_exprs: &mut [u8],
     marks_stmts: &mut [u8],
     marks_decls: &mut [u8],
     row: u32,
 ) -> Option<StmtSurvey>
-    requires short { Short (heap tables) }
-    requires sized { Sized (heap tables) marks_exprs.old marks_stmts.old marks_decls.old }
-    ensures row { StmtsMarked result (marks_of marks_exprs.old marks_stmts.old marks_decls.old) (heap tables.entry) row no_survey (marks_of marks_exprs.new marks_stmts.new marks_decls.new) }
+    requires short { Short (heap tables.now) }
+    requires sized { Sized (heap tables.now) marks_exprs.old marks_stmts.old marks_decls.old }
+    ensures row { StmtsMarked result (marks_of marks_exprs.old marks_stmts.old marks_decls.old) (heap tables.now) row no_survey (marks_of marks_exprs.new marks_stmts.new marks_decls.new) }
     ensures left { unmarked marks_stmts.new ≤ unmarked marks_stmts.old }
 {
     let mut at = row;
@@ -202,20 +202,20 @@ fn mark_roots(
     ensures { RootsMarked (is_some result) (marks_of marks_exprs.old marks_stmts.old marks_decls.old) (heap tables.entry) roots (marks_of marks_exprs.new marks_stmts.new marks_decls.new) }
 {
     let parts = mark_parts(
-        tables,
+        &tables,
         marks_exprs,
         marks_decls,
         roots.exprs.top,
         roots.decls.top,
     )?;
     let items = mark_stmts(
-        tables,
+        &tables,
         marks_exprs,
         marks_stmts,
         marks_decls,
         roots.stmts.top,
     )?;
-    let body = mark_stmts(tables, marks_exprs, marks_stmts, marks_decls, roots.body)?;
+    let body = mark_stmts(&tables, marks_exprs, marks_stmts, marks_decls, roots.body)?;
     told(roots, parts, items, body).then_some(())
 }
 

@@ -1,15 +1,9 @@
 -- Walks along rows: a chain is no longer than its table, so a walk meets all of it.
-use Rattle.std.proofs.Common.{◌≡◌, ℕ, zero, suc, ◌≤◌, List, [], ◌∷◌, Option, None, Some, map, length, get_or, option_map, slice_get, sym, refl, ap, ◌∙◌, subst, arith}
+use Rattle.std.proofs.Common.{◌≡◌, ℕ, zero, suc, ◌≤◌, List, Option, None, Some, map, length, get_or, option_map, slice_get, sym, refl, ap, ◌∙◌, subst, arith}
 use Rattle.std.proofs.lemmas.Option.{slice_get-get_or, slice_get-map, slice_get_past}
 use Rattle.pool.specs.Chain.{nowhere, Chain}
-use Rattle.records.specs.Heap.{Heap}
-use Rattle.records.specs.Owned.{Short}
-use Rattle.records.specs.Rows.{At, Row, end, node, row_length}
-use Rattle.records.specs.TableOf.{TableOf, Tabled}
 use Rattle.records.specs.Walked.{met, walked}
-use Rattle.records.proofs.Counting.{at_next, row_chain, there}
 use Rattle.records.proofs.Fits.{linked_fits}
-use Rattle.records.proofs.Walked.{walked_end, walked_node}
 
 module _ {R : Type 0} (link : R → ℕ) (table : List R) (s : length table ≤ nowhere) where
   met_all : (i m n : ℕ) → Chain (map link table) i m → m ≤ n → length (walked link table i n) ≡ m
@@ -31,21 +25,3 @@ module _ {R : Type 0} (link : R → ℕ) (table : List R) (s : length table ≤ 
   -- so a walk meets as many records as the chain has
   pub chain_met : (i m : ℕ) {items : List (ℕ × R)} → Chain (map link table) i m → items ≡ walked link table i (length table) → length items ≡ m
   chain_met i m c e = ap length e ∙ met_all i m (length table) c (linked_fits link table s i m c)
-
--- items are the records of a row, each with its place
-module _ {R : Type 0} (t : TableOf R) (h : Heap) where
-  abbrev pub Holding : Row → List (ℕ × R) → Type 0
-  Holding end [] = Unit {0}
-  Holding end (x ∷ items) = ⊥
-  Holding (node l x y z w) [] = ⊥
-  Holding (node l x y z w) (i ∷ items) = At h (t.place i.0) (node l x y z w) × Holding w items
-
-module _ {R : Type 0} {t : TableOf R} {link : R → ℕ} {relinked : R → ℕ → R} (tabled : Tabled R t link relinked) (h : Heap) (s : Short h) where
-  meets : (i n : ℕ) (r : Row) → At h (t.place i) r → row_length r ≤ n → Holding t h r (walked link (t.table h) i n)
-  meets i n end a f = rw (walked_end tabled h i n s a) tt
-  meets i zero (node l x y z w) a f = absurd (omega arith)
-  meets i (suc n) (node l x y z w) a f = rw (walked_node tabled h i n a.0) (a, meets (link (there tabled h i)) n w (at_next tabled h i w a.5) (omega arith))
-
-  -- so are those that a walk along it meets
-  pub row_met : (i : ℕ) (r : Row) → At h (t.place i) r → Holding t h r (walked link (t.table h) i (length (t.table h)))
-  row_met i r a = meets i (length (t.table h)) r a (linked_fits link (t.table h) (tabled.short h s) i (row_length r) (row_chain tabled h i r a))

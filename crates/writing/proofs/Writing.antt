@@ -1,5 +1,5 @@
 -- Writing rows: from the writing of a record to that of a row, and how a reading goes down.
-use Rattle.std.proofs.Common.{◌≡◌, ◌≢◌, ℕ, ◌<◌, ◌≤◌, List, [], ◌∷◌, map, length, get_or, sym, refl, ap, ◌∙◌, subst, arith}
+use Rattle.std.proofs.Common.{◌≡◌, ℕ, ◌<◌, ◌≤◌, List, [], map, length, get_or, sym, refl, ap, ◌∙◌, subst, arith}
 use lib.ListN.{length-map}
 use Rattle.pool.specs.Chain.{nowhere, Chain}
 use Rattle.records.specs.declared.record.ExprRecord.{ExprRecord}
@@ -15,10 +15,8 @@ use Rattle.writing.specs.Bytes.{Order, order, in_order, first_bytes, others_byte
 use Rattle.writing.specs.Bytes.{Puts, Writable, weight, Writes, Countable, body_spelling, body_row_bytes}
 use Rattle.records.specs.Owned.{Limited}
 use Rattle.records.specs.TableOf.{TableOf, Tabled}
-use Rattle.records.specs.Walked.{walked}
-use Rattle.writing.proofs.Walks.{Holding, row_met}
 use Rattle.records.proofs.Sizes.{reach_is, row_size}
-use Rattle.records.proofs.Counting.{chain_unique, decl_chain, expr_chain, stmt_chain}
+use Rattle.records.proofs.Counting.{at_next, chain_unique, decl_chain, expr_chain, stmt_chain, there}
 
 pub outside : (h : Heap) → Short h → (k : Place) → Nowhere k → Within h k → ⊥
 outside h s (expr_at i) n v = let q = s.exprs in omega arith
@@ -84,86 +82,78 @@ opened {h} {k} v ne = go v.row v.held v.small
           next_less = omega arith;
         }
 
--- the part of a row that is written, and the part that is left, whose records a walk's items are
-pub record Going {R : Type 0} (t : TableOf R) (bytes : Row → List ℕ → List ℕ) (h : Heap) (row : ℕ) (items : List (ℕ × R)) (out : List ℕ) (from : ℕ)
+-- the part of a row that is written, and the part that is left, which begins at a place
+pub record Going {R : Type 0} (t : TableOf R) (bytes : Row → List ℕ → List ℕ) (h : Heap) (row at : ℕ) (out : List ℕ) (from : ℕ)
     (out' : List ℕ) (from' : ℕ) : Type 0 where
   pub whole : Row
   pub left : Row
   pub whole_at : At h (t.place row) whole
-  pub left_met : Holding t h left items
+  pub left_at : At h (t.place at) left
   pub less : size left ≤ size whole
   pub small : size whole ≤ 65535
   pub short : Short h
   pub written : (rest : List ℕ) → placed out from (bytes whole rest) ≡ placed out' from' (bytes left rest)
 
--- the first record that a walk has left
-pub record Here {R : Type 0} (t : TableOf R) (h : Heap) (row i : ℕ) : Type 0 where
-  pub some : i ≢ nowhere
-  pub writable : Writable h (t.place i)
-  pub less : weight h (t.place i) ≤ weight h (t.place row)
+pub going_from : {R : Type 0} {t : TableOf R} {bytes : Row → List ℕ → List ℕ} {h : Heap} {row : ℕ} {out : List ℕ} {from : ℕ} → Writable h (t.place row)
+    → Going t bytes h row row out from out from
+going_from v = record {
+  whole = v.row;
+  left = v.row;
+  whole_at = v.held;
+  left_at = v.held;
+  less = omega arith;
+  small = v.small;
+  short = v.short;
+  written = λ rest. refl;
+}
+
+-- the record at the place, where there is one
+pub record Here {R : Type 0} (t : TableOf R) (h : Heap) (row at : ℕ) : Type 0 where
+  pub writable : Writable h (t.place at)
+  pub opened : Opened h (t.place at)
+  pub less : weight h (t.place at) ≤ weight h (t.place row)
 
 module _ {R : Type 0} {t : TableOf R} {link : R → ℕ} {relinked : R → ℕ → R} (tabled : Tabled R t link relinked)
-    {bytes : Row → List ℕ → List ℕ} {h : Heap} {row : ℕ} {items : List (ℕ × R)} {out : List ℕ} {from : ℕ} where
-  pub going_from : items ≡ walked link (t.table h) row (length (t.table h)) → Writable h (t.place row) → Going t bytes h row items out from out from
-  going_from e v = record {
-    whole = v.row;
-    left = v.row;
-    whole_at = v.held;
-    left_met = rw e (row_met tabled h v.short row v.row v.held);
-    less = omega arith;
-    small = v.small;
-    short = v.short;
-    written = λ rest. refl;
-  }
+    {bytes : Row → List ℕ → List ℕ} {h : Heap} {row at : ℕ} {out : List ℕ} {from : ℕ} {out' : List ℕ} {from' : ℕ} (g : Going t bytes h row at out from out' from') where
+  pub going_here : (at ≡ nowhere → ⊥) → Here t h row at
+  going_here ne =
+      let l = g.less in
+      let b = g.small in
+      let v : Writable h (t.place at) = record { row = g.left; held = g.left_at; small = omega arith; short = g.short } in
+      let e₁ = weight_is h (t.place row) g.whole g.short g.whole_at b in
+      let e₂ = weight_is h (t.place at) g.left g.short g.left_at (omega arith) in
+      record { writable = v; opened = opened v (λ n. ne (tabled.nowhere_out at n)); less = omega arith }
 
-  module _ {rest : List (ℕ × R)} {i : ℕ} {x : R} {out' : List ℕ} {from' : ℕ} (e : items ≡ (i, x) ∷ rest) (g : Going t bytes h row items out from out' from') where
-    pub going_here : Here t h row i
-    going_here = go g.left g.less (rw e at g.left_met)
-      where
-        go : (r : Row) → size r ≤ size g.whole → Holding t h r ((i, x) ∷ rest) → Here t h row i
-        go end b m = absurd m
-        go (node l y₁ y z w) b m =
-            let v = tabled.within_out h i m.0.0 in
-            let s = tabled.short h g.short in
-            let q = g.small in
-            let e₁ = weight_is h (t.place row) g.whole g.short g.whole_at q in
-            let e₂ = weight_is h (t.place i) (node l y₁ y z w) g.short m.0 (omega arith) in
-            record {
-              some = λ n. omega arith;
-              writable = record { row = node l y₁ y z w; held = m.0; small = omega arith; short = g.short };
-              less = omega arith;
-            }
-
-    pub going_on : (first : Row → List ℕ → List ℕ)
-        → ((l : Label) (x y z w : Row) (rest : List ℕ) → bytes (node l x y z w) rest ≡ first (node l x y z w) (bytes w rest))
-        → {out'' : List ℕ} {from'' : ℕ} → Writes first h (t.place i) out' from' out'' from'' → Going t bytes h row rest out from out'' from''
-    going_on first law {out''} {from''} v = go g.left g.less (rw e at g.left_met) g.written
-      where
-        go : (r : Row) → size r ≤ size g.whole → Holding t h r ((i, x) ∷ rest)
-            → ((others : List ℕ) → placed out from (bytes g.whole others) ≡ placed out' from' (bytes r others)) → Going t bytes h row rest out from out'' from''
-        go end b m p = absurd m
-        go (node l y₁ y z w) b m p =
-            let o : v.row ≡ node l y₁ y z w = at_unique h g.short (t.place i) v.row (node l y₁ y z w) v.held m.0 in
-            let d : Puts (first (node l y₁ y z w)) out' from' out'' from'' = subst (λ (r : Row). Puts (first r) out' from' out'' from'') o v.put in
-            record {
-              whole = g.whole;
-              left = w;
-              whole_at = g.whole_at;
-              left_met = m.1;
-              less = omega arith;
-              small = g.small;
-              short = g.short;
-              written = λ others. p others ∙ ap (placed out' from') (law l y₁ y z w others) ∙ d (bytes w others);
-            }
-
-  pub going_off : {out' : List ℕ} {from' : ℕ} → items ≡ [] → Going t bytes h row items out from out' from' → ((rest : List ℕ) → bytes end rest ≡ rest)
-      → Writes bytes h (t.place row) out from out' from'
-  going_off {out'} {from'} e g law = go g.left (rw e at g.left_met) g.written
+  pub going_on : (at ≡ nowhere → ⊥) → (first : Row → List ℕ → List ℕ)
+      → ((l : Label) (x y z w : Row) (rest : List ℕ) → bytes (node l x y z w) rest ≡ first (node l x y z w) (bytes w rest))
+      → {out'' : List ℕ} {from'' : ℕ} → Writes first h (t.place at) out' from' out'' from'' → Going t bytes h row (link (there tabled h at)) out from out'' from''
+  going_on ne first law {out''} {from''} v = go g.left g.left_at g.less g.written
     where
-      go : (r : Row) → Holding t h r [] → ((rest : List ℕ) → placed out from (bytes g.whole rest) ≡ placed out' from' (bytes r rest))
+      go : (r : Row) → At h (t.place at) r → size r ≤ size g.whole
+          → ((others : List ℕ) → placed out from (bytes g.whole others) ≡ placed out' from' (bytes r others))
+          → Going t bytes h row (link (there tabled h at)) out from out'' from''
+      go end a b p = absurd (ne (tabled.nowhere_out at a))
+      go (node l x y z w) a b p =
+          let o : v.row ≡ node l x y z w = at_unique h g.short (t.place at) v.row (node l x y z w) v.held a in
+          let d : Puts (first (node l x y z w)) out' from' out'' from'' = subst (λ (r : Row). Puts (first r) out' from' out'' from'') o v.put in
+          record {
+            whole = g.whole;
+            left = w;
+            whole_at = g.whole_at;
+            left_at = at_next tabled h at w a.5;
+            less = omega arith;
+            small = g.small;
+            short = g.short;
+            written = λ others. p others ∙ ap (placed out' from') (law l x y z w others) ∙ d (bytes w others);
+          }
+
+  pub going_off : at ≡ nowhere → ((rest : List ℕ) → bytes end rest ≡ rest) → Writes bytes h (t.place row) out from out' from'
+  going_off e law = go g.left g.left_at g.written
+    where
+      go : (r : Row) → At h (t.place at) r → ((rest : List ℕ) → placed out from (bytes g.whole rest) ≡ placed out' from' (bytes r rest))
           → Writes bytes h (t.place row) out from out' from'
-      go end m p = record { row = g.whole; held = g.whole_at; put = λ rest. p rest ∙ ap (placed out' from') (law rest) }
-      go (node l x y z w) m p = absurd m
+      go end a p = record { row = g.whole; held = g.whole_at; put = λ rest. p rest ∙ ap (placed out' from') (law rest) }
+      go (node l x y z w) a p = absurd (outside h g.short (t.place at) (tabled.nowhere_in at e) a.0)
 
 -- the laws of rows
 pub exprs_law : (l : Label) (x y z w : Row) (rest : List ℕ)

@@ -122,24 +122,28 @@ fn count<R: Linked + Copy>(table: &[R], row: u32) -> u16
 
 // Writes a row of expressions. Each table's rows have a loop of their own: one loop with a closure is no plainer,
 // since each closure has to require that its record is there and below the row, and the loop asks that of each call.
+// The loops keep a place alone, and the tables are passed by reference: every level of a deep sheet is a call of these
+// functions, and what they keep there is what the sheet takes of the stack.
 #[cycle(write_expr_write_exprs)]
-fn write_exprs(tables: Lent, row: u32, out: &mut [u8], from: usize) -> usize
-    requires { Writable (heap tables) (expr_at row) }
-    ensures { Writes exprs_row_bytes (heap tables.entry) (expr_at row) out.old from out.new result }
+fn write_exprs(tables: &Lent, row: u32, out: &mut [u8], from: usize) -> usize
+    requires { Writable (heap tables.now) (expr_at row) }
+    ensures { Writes exprs_row_bytes (heap tables.now) (expr_at row) out.old from out.new result }
 {
+    let mut at = row;
     let mut end = from;
-    for (at, _) in along(tables.exprs, row) {
+    while at != NOWHERE {
         end = write_expr(tables, at, out, end);
+        at = tables.exprs[at as usize].next;
     }
     end
 }
 
 // Writes one expression: its parts, then its command.
 #[cycle(write_expr_write_exprs)]
-fn write_expr(tables: Lent, at: u32, out: &mut [u8], from: usize) -> usize
+fn write_expr(tables: &Lent, at: u32, out: &mut [u8], from: usize) -> usize
     requires some { at ≢ nowhere }
-    requires writable { Writable (heap tables) (expr_at at) }
-    ensures { Writes first_expr_bytes (heap tables.entry) (expr_at at) out.old from out.new result }
+    requires writable { Writable (heap tables.now) (expr_at at) }
+    ensures { Writes first_expr_bytes (heap tables.now) (expr_at at) out.old from out.new result }
 {
     let expr = tables.exprs[at as usize];
     let end = write_exprs(tables, expr.first, out, from);
@@ -148,22 +152,24 @@ fn write_expr(tables: Lent, at: u32, out: &mut [u8], from: usize) -> usize
 }
 
 // Writes a row of declarators.
-fn write_decls(tables: Lent, row: u32, out: &mut [u8], from: usize) -> usize
-    requires { Writable (heap tables) (decl_at row) }
-    ensures { Writes decls_row_bytes (heap tables.entry) (decl_at row) out.old from out.new result }
+fn write_decls(tables: &Lent, row: u32, out: &mut [u8], from: usize) -> usize
+    requires { Writable (heap tables.now) (decl_at row) }
+    ensures { Writes decls_row_bytes (heap tables.now) (decl_at row) out.old from out.new result }
 {
+    let mut at = row;
     let mut end = from;
-    for (at, _) in along(tables.decls, row) {
+    while at != NOWHERE {
         end = write_decl(tables, at, out, end);
+        at = tables.decls[at as usize].next;
     }
     end
 }
 
 // Writes one declarator: its value, if any, then its command.
-fn write_decl(tables: Lent, at: u32, out: &mut [u8], from: usize) -> usize
+fn write_decl(tables: &Lent, at: u32, out: &mut [u8], from: usize) -> usize
     requires some { at ≢ nowhere }
-    requires writable { Writable (heap tables) (decl_at at) }
-    ensures { Writes first_decl_bytes (heap tables.entry) (decl_at at) out.old from out.new result }
+    requires writable { Writable (heap tables.now) (decl_at at) }
+    ensures { Writes first_decl_bytes (heap tables.now) (decl_at at) out.old from out.new result }
 {
     let decl = tables.decls[at as usize];
     let end = write_exprs(tables, decl.value, out, from);
@@ -173,23 +179,25 @@ fn write_decl(tables: Lent, at: u32, out: &mut [u8], from: usize) -> usize
 
 // Writes a row of statements.
 #[cycle(write_around_write_parts_write_stmt_write_stmts)]
-fn write_stmts(tables: Lent, row: u32, out: &mut [u8], from: usize) -> usize
-    requires { Writable (heap tables) (stmt_at row) }
-    ensures { Writes stmts_row_bytes (heap tables.entry) (stmt_at row) out.old from out.new result }
+fn write_stmts(tables: &Lent, row: u32, out: &mut [u8], from: usize) -> usize
+    requires { Writable (heap tables.now) (stmt_at row) }
+    ensures { Writes stmts_row_bytes (heap tables.now) (stmt_at row) out.old from out.new result }
 {
+    let mut at = row;
     let mut end = from;
-    for (at, _) in along(tables.stmts, row) {
+    while at != NOWHERE {
         end = write_stmt(tables, at, out, end);
+        at = tables.stmts[at as usize].next;
     }
     end
 }
 
 // Writes one statement: its parts, then its command.
 #[cycle(write_around_write_parts_write_stmt_write_stmts)]
-fn write_stmt(tables: Lent, at: u32, out: &mut [u8], from: usize) -> usize
+fn write_stmt(tables: &Lent, at: u32, out: &mut [u8], from: usize) -> usize
     requires some { at ≢ nowhere }
-    requires writable { Writable (heap tables) (stmt_at at) }
-    ensures { Writes first_bytes (heap tables.entry) (stmt_at at) out.old from out.new result }
+    requires writable { Writable (heap tables.now) (stmt_at at) }
+    ensures { Writes first_bytes (heap tables.now) (stmt_at at) out.old from out.new result }
 {
     let end = write_parts(tables, at, out, from);
     write_command(tables, at, out, end)
@@ -197,10 +205,10 @@ fn write_stmt(tables: Lent, at: u32, out: &mut [u8], from: usize) -> usize
 
 // Writes the parts of a statement in source order.
 #[cycle(write_around_write_parts_write_stmt_write_stmts)]
-fn write_parts(tables: Lent, at: u32, out: &mut [u8], from: usize) -> usize
+fn write_parts(tables: &Lent, at: u32, out: &mut [u8], from: usize) -> usize
     requires some { at ≢ nowhere }
-    requires writable { Writable (heap tables) (stmt_at at) }
-    ensures { Writes parts_bytes (heap tables.entry) (stmt_at at) out.old from out.new result }
+    requires writable { Writable (heap tables.now) (stmt_at at) }
+    ensures { Writes parts_bytes (heap tables.now) (stmt_at at) out.old from out.new result }
 {
     let stmt = tables.stmts[at as usize];
     match stmt.kind {
@@ -221,10 +229,10 @@ fn write_parts(tables: Lent, at: u32, out: &mut [u8], from: usize) -> usize
 
 // Writes a statement's first statement, its expressions, and its other statements.
 #[cycle(write_around_write_parts_write_stmt_write_stmts)]
-fn write_around(tables: Lent, at: u32, out: &mut [u8], from: usize) -> usize
+fn write_around(tables: &Lent, at: u32, out: &mut [u8], from: usize) -> usize
     requires some { at ≢ nowhere }
-    requires writable { Writable (heap tables) (stmt_at at) }
-    ensures { Writes around_bytes (heap tables.entry) (stmt_at at) out.old from out.new result }
+    requires writable { Writable (heap tables.now) (stmt_at at) }
+    ensures { Writes around_bytes (heap tables.now) (stmt_at at) out.old from out.new result }
 {
     let stmt = tables.stmts[at as usize];
     let first = stmt.stmts;
@@ -237,10 +245,10 @@ fn write_around(tables: Lent, at: u32, out: &mut [u8], from: usize) -> usize
 }
 
 // Writes the command of a statement.
-fn write_command(tables: Lent, at: u32, out: &mut [u8], from: usize) -> usize
+fn write_command(tables: &Lent, at: u32, out: &mut [u8], from: usize) -> usize
     requires some { at ≢ nowhere }
-    requires writable { Writable (heap tables) (stmt_at at) }
-    ensures { Writes command_bytes (heap tables.entry) (stmt_at at) out.old from out.new result }
+    requires writable { Writable (heap tables.now) (stmt_at at) }
+    ensures { Writes command_bytes (heap tables.now) (stmt_at at) out.old from out.new result }
 {
     let stmt = tables.stmts[at as usize];
     let exprs = count(tables.exprs, stmt.exprs);
@@ -250,9 +258,9 @@ fn write_command(tables: Lent, at: u32, out: &mut [u8], from: usize) -> usize
 }
 
 // Writes a body and its command from the start of the output.
-fn write_whole(tables: Lent, body: u32, out: &mut [u8]) -> usize
-    requires { Writable (heap tables) (stmt_at body) }
-    ensures { (row : Row) → At (heap tables.entry) (stmt_at body) row → placed out.old 0 (body_row_bytes row) ≡ (out.new, result) }
+fn write_whole(tables: &Lent, body: u32, out: &mut [u8]) -> usize
+    requires { Writable (heap tables.now) (stmt_at body) }
+    ensures { (row : Row) → At (heap tables.now) (stmt_at body) row → placed out.old 0 (body_row_bytes row) ≡ (out.new, result) }
 {
     let end = write_stmts(tables, body, out, 0);
     let stmts = count(tables.stmts, body);
@@ -260,9 +268,9 @@ fn write_whole(tables: Lent, body: u32, out: &mut [u8]) -> usize
 }
 
 // How many bytes a body and its command take.
-fn bytes_length(tables: Lent, body: u32) -> usize
-    requires { Writable (heap tables) (stmt_at body) }
-    ensures { (row : Row) → At (heap tables.entry) (stmt_at body) row → result ≡ length (body_row_bytes row) }
+fn bytes_length(tables: &Lent, body: u32) -> usize
+    requires { Writable (heap tables.now) (stmt_at body) }
+    ensures { (row : Row) → At (heap tables.now) (stmt_at body) row → result ≡ length (body_row_bytes row) }
 {
     let mut none = [0u8; 0];
     write_whole(tables, body, &mut none)
@@ -274,8 +282,8 @@ pub fn write_body(tables: Lent, body: u32, out: &mut [u8]) -> Option<usize>
     requires limited { Limited (heap tables) }
     ensures { (ss : Stmts) → At (heap tables.entry) (stmt_at body) (stmts_row ss) → SoundStmts ss → WrittenOut result (body_bytes ss) out.old out.new }
 {
-    if bytes_length(tables, body) > out.len() {
+    if bytes_length(&tables, body) > out.len() {
         return None;
     }
-    Some(write_whole(tables, body, out))
+    Some(write_whole(&tables, body, out))
 }

@@ -1,6 +1,4 @@
 use Rattle.std.proofs.Common.{sym, refl, ap, ◌∙◌, arith, rules}
-use Rattle.records.specs.Turning.{stmt_next}
-use Rattle.records.specs.Walked.{ahead}
 use Rattle.records.proofs.Tables.{stmts_tabled}
 use Rattle.writing.specs.Bytes.{order, exprs_first, stmts_first, exprs_row_bytes, decls_row_bytes, first_bytes, stmts_row_bytes}
 use Rattle.writing.proofs.Writing.{opened, going_from, going_here, going_on, going_off, stmts_law}
@@ -102,16 +100,22 @@ write_stmt-returns t c = stmt_written c.requires.writable c.write_parts-end.ensu
 
 -- a row of statements
 pub write_stmts-loop-at-init : goal.write_stmts-loop-at-init
-write_stmts-loop-at-init t c = going_from stmts_tabled (ap (ahead stmt_next) c.into_iter-at-iterator.ensures.into_iter_gives ∙ c.along-at-items.ensures) c.requires
+write_stmts-loop-at-init t c = going_from c.requires
 
 pub write_stmts-write_stmt-end-requires : goal.write_stmts-write_stmt-end-requires
 write_stmts-write_stmt-end-requires t c =
-    let h = going_here stmts_tabled c.in-Some.ensures.steps c.loop-at.invariant in
-    ((let m = c.decreases in let l = h.less in omega arith), (h.some, h.writable))
+    let h = going_here stmts_tabled c.loop-at.invariant c.loop-at-test.true in
+    ((let m = c.decreases in let l = h.less in omega arith), (c.loop-at-test.true, h.writable))
+
+pub write_stmts-bounds-tables-at : goal.write_stmts-bounds-tables-at
+write_stmts-bounds-tables-at t c = (going_here stmts_tabled c.loop-at.invariant c.loop-at-test.true).opened.within
+
+pub write_stmts-loop-at-smaller : goal.write_stmts-loop-at-smaller
+write_stmts-loop-at-smaller t c = (going_here stmts_tabled c.loop-at.invariant c.loop-at-test.true).opened.next_less
 
 pub write_stmts-loop-at-preserved : goal.write_stmts-loop-at-preserved
 write_stmts-loop-at-preserved t c =
-    going_on stmts_tabled c.in-Some.ensures.steps c.loop-at.invariant first_bytes stmts_law c.write_stmt-end.ensures
+    going_on stmts_tabled c.loop-at.invariant c.loop-at-test.true first_bytes stmts_law c.write_stmt-end.ensures
 
 pub write_stmts-returns : goal.write_stmts-returns
-write_stmts-returns t c = going_off stmts_tabled c.in-None.ensures.steps.0 c.loop-at.invariant (λ rest. refl)
+write_stmts-returns t c = going_off stmts_tabled c.loop-at.invariant c.loop-at-test.false (λ rest. refl)

@@ -1,6 +1,4 @@
-use Rattle.std.proofs.Common.{refl, ap, ◌∙◌, arith}
-use Rattle.records.specs.Turning.{expr_next}
-use Rattle.records.specs.Walked.{ahead}
+use Rattle.std.proofs.Common.{refl, arith}
 use Rattle.records.proofs.Tables.{exprs_tabled}
 use Rattle.writing.specs.Bytes.{first_expr_bytes}
 use Rattle.writing.proofs.Writing.{opened, going_from, going_here, going_on, going_off, exprs_law, exprs_countable, expr_written}
@@ -24,16 +22,22 @@ write_expr-returns t c =
 
 -- a row of expressions
 pub write_exprs-loop-at-init : goal.write_exprs-loop-at-init
-write_exprs-loop-at-init t c = going_from exprs_tabled (ap (ahead expr_next) c.into_iter-at-iterator.ensures.into_iter_gives ∙ c.along-at-items.ensures) c.requires
+write_exprs-loop-at-init t c = going_from c.requires
 
 pub write_exprs-write_expr-end-requires : goal.write_exprs-write_expr-end-requires
 write_exprs-write_expr-end-requires t c =
-    let h = going_here exprs_tabled c.in-Some.ensures.steps c.loop-at.invariant in
-    ((let m = c.decreases in let l = h.less in omega arith), (h.some, h.writable))
+    let h = going_here exprs_tabled c.loop-at.invariant c.loop-at-test.true in
+    ((let m = c.decreases in let l = h.less in omega arith), (c.loop-at-test.true, h.writable))
+
+pub write_exprs-bounds-tables-at : goal.write_exprs-bounds-tables-at
+write_exprs-bounds-tables-at t c = (going_here exprs_tabled c.loop-at.invariant c.loop-at-test.true).opened.within
+
+pub write_exprs-loop-at-smaller : goal.write_exprs-loop-at-smaller
+write_exprs-loop-at-smaller t c = (going_here exprs_tabled c.loop-at.invariant c.loop-at-test.true).opened.next_less
 
 pub write_exprs-loop-at-preserved : goal.write_exprs-loop-at-preserved
 write_exprs-loop-at-preserved t c =
-    going_on exprs_tabled c.in-Some.ensures.steps c.loop-at.invariant first_expr_bytes exprs_law c.write_expr-end.ensures
+    going_on exprs_tabled c.loop-at.invariant c.loop-at-test.true first_expr_bytes exprs_law c.write_expr-end.ensures
 
 pub write_exprs-returns : goal.write_exprs-returns
-write_exprs-returns t c = going_off exprs_tabled c.in-None.ensures.steps.0 c.loop-at.invariant (λ rest. refl)
+write_exprs-returns t c = going_off exprs_tabled c.loop-at.invariant c.loop-at-test.false (λ rest. refl)
