@@ -10,7 +10,118 @@
 //     %  all other parts on lines of their own
 //     +  all other parts on indented lines
 //     @  all other parts on indented lines in braces
-use script::{Command, DeclarationKind, ForHead, ForInit, LogicalOperator, Word};
+use script::{Code, Command, DeclarationKind, ForHead, ForInit, LogicalOperator, Word};
+
+// The head of a `for` whose byte is not listed.
+const FULL_HEAD: ForHead = ForHead {
+    init: ForInit::Declaration,
+    test: true,
+    update: true,
+};
+
+// A byte with those behind it as a command, whatever they are. An operand that is missing is 0, and one that is not listed
+// counts as the last that is; a byte that begins no command is a list of nothing.
+pub fn command(first: u8, operands: &[u8]) -> Command {
+    match Code::try_from(first) {
+        Ok(code) => command_of(code, operands),
+        Err(_) => Command::Body { count: 0 },
+    }
+}
+
+fn command_of(code: Code, operands: &[u8]) -> Command {
+    let first = byte(operands, 0);
+    match code {
+        Code::Number => Command::Number(u32::from_le_bytes([
+            first,
+            byte(operands, 1),
+            byte(operands, 2),
+            byte(operands, 3),
+        ])),
+        Code::Word => Command::Word(Word::try_from(first).unwrap_or(Word::Null)),
+        Code::Name => Command::Name(first),
+        Code::Assignment => Command::Assignment(first),
+        Code::Call => Command::Call {
+            number: first,
+            count: byte(operands, 1),
+        },
+        Code::Sequence => Command::Sequence {
+            count: count(operands, 0),
+        },
+        Code::Conditional => Command::Conditional,
+        Code::Logical => Command::Logical(LogicalOperator::try_from(first).unwrap_or(
+            LogicalOperator::Nullish,
+        )),
+        Code::Not => Command::Not,
+        Code::Void => Command::Void,
+        Code::StrictEquality => Command::StrictEquality,
+        Code::Declarator => Command::Declarator {
+            name: first,
+            valued: false,
+        },
+        Code::ValuedDeclarator => Command::Declarator {
+            name: first,
+            valued: true,
+        },
+        Code::Empty => Command::Empty,
+        Code::Expression => Command::Expression,
+        Code::Declaration => Command::Declaration {
+            kind: DeclarationKind::try_from(first).unwrap_or(DeclarationKind::Const),
+            count: count(operands, 1),
+        },
+        Code::BareReturn => Command::Return { valued: false },
+        Code::ValuedReturn => Command::Return { valued: true },
+        Code::Throw => Command::Throw,
+        Code::If => Command::If { alternate: false },
+        Code::IfElse => Command::If { alternate: true },
+        Code::Block => Command::Block {
+            count: count(operands, 0),
+        },
+        Code::While => Command::While,
+        Code::DoWhile => Command::DoWhile,
+        Code::For => Command::For(ForHead::try_from(first).unwrap_or(FULL_HEAD)),
+        Code::Break => Command::Break,
+        Code::Continue => Command::Continue,
+        Code::Case => Command::Case {
+            tested: first != 0,
+            count: count(operands, 1),
+        },
+        Code::Switch => Command::Switch {
+            count: count(operands, 0),
+        },
+        Code::Body => Command::Body {
+            count: count(operands, 1),
+        },
+    }
+}
+
+// How many bytes the operands of a command have.
+pub fn width(first: u8) -> usize {
+    match Code::try_from(first) {
+        Ok(Code::Number) => 4,
+        Ok(Code::Declaration | Code::Case | Code::Body) => 3,
+        Ok(Code::Call | Code::Sequence | Code::Block | Code::Switch) => 2,
+        Ok(
+            Code::Word
+            | Code::Name
+            | Code::Assignment
+            | Code::Logical
+            | Code::Declarator
+            | Code::ValuedDeclarator
+            | Code::For,
+        ) => 1,
+        _ => 0,
+    }
+}
+
+// The byte at a place, or 0 behind the end.
+fn byte(bytes: &[u8], at: usize) -> u8 {
+    bytes.get(at).copied().unwrap_or(0)
+}
+
+// The count of two bytes at a place, the low one first.
+fn count(bytes: &[u8], at: usize) -> u16 {
+    u16::from_le_bytes([byte(bytes, at), byte(bytes, at.saturating_add(1))])
+}
 
 pub fn text(command: Command) -> &'static str {
     match command {

@@ -1,24 +1,19 @@
 // A readable listing of a body: each command takes the texts of its parts off a stack and puts its own there.
-use crate::command::{is_part, number, parts, text};
-use reading::{Step, read_byte};
-use script::{Awaiting, Command};
+use crate::command::{command, is_part, number, parts, text, width};
+use script::Command;
 use std::alloc::{AllocError, Global};
 use std::fmt::Write;
 
 // The script that a sheet's written bytes spell. Names are n0, n1 and so on, and calls c0, c1 and so on.
-// A byte that is refused where it stands is passed over, and the reading goes on as if it had not come.
 pub fn listing(heap: Global, bytes: &[u8]) -> anyhow::Result<String> {
     let mut texts = Vec::new(heap);
-    let mut awaiting = Awaiting::Command;
-    for byte in bytes {
-        match read_byte(awaiting, *byte) {
-            Ok(Step::Await(next)) => awaiting = next,
-            Ok(Step::Perform(command)) => {
-                perform(heap, &mut texts, command)?;
-                awaiting = Awaiting::Command;
-            }
-            Err(_) => {}
-        }
+    let mut rest = bytes;
+    for _ in 0..bytes.len() {
+        let Some((first, operands)) = rest.split_first() else {
+            break;
+        };
+        perform(heap, &mut texts, command(*first, operands))?;
+        rest = operands.get(width(*first)..).unwrap_or(&[]);
     }
     Ok(texts.pop().unwrap_or(String::new(heap)))
 }
@@ -73,11 +68,14 @@ impl<'a> Telling<'a> {
         }
     }
 
-    // Goes on to the next part.
+    // Goes on to the next part. One that is missing is told as nothing.
     fn go_on(&mut self) {
-        if let Some((part, rest)) = self.rest.split_first() {
-            self.part = part;
-            self.rest = rest;
+        match self.rest.split_first() {
+            Some((part, rest)) => {
+                self.part = part;
+                self.rest = rest;
+            }
+            None => self.part = "",
         }
     }
 
