@@ -1,5 +1,5 @@
 -- Walks along rows that note names.
-use Rattle.std.proofs.Common.{◌≡◌, ℕ, zero, suc, ◌≤◌, List, [], ◌∷◌, ◌++◌, map, length, get_or, refl, ap, ◌∙◌, subst, append_assoc, arith}
+use Rattle.std.proofs.Common.{◌≡◌, ℕ, zero, suc, ◌+◌, ◌<◌, ◌≤◌, List, [], ◌∷◌, ◌++◌, map, take, length, get_or, refl, ap, ◌∙◌, subst, append_assoc, arith}
 use Rattle.records.specs.declared.record.DeclRecord.{DeclRecord}
 use Rattle.records.specs.declared.record.ExprRecord.{ExprRecord}
 use Rattle.records.specs.declared.record.StmtRecord.{StmtRecord}
@@ -8,6 +8,8 @@ use Rattle.records.specs.Owned.{Short}
 use Rattle.records.specs.Readable.{tables}
 use Rattle.records.specs.Rows.{At, Row, end, node, row_length}
 use Rattle.records.specs.Turning.{decl_next, stmt_next}
+use Rattle.records.proofs.Counting.{stmt_chain}
+use Rattle.records.proofs.Fits.{linked_fits}
 use Rattle.records.proofs.Tables.{decls_tabled, stmts_tabled}
 use Rattle.rules.specs.Unreachable.{note_hoisted_names}
 use Rattle.records.specs.Walked.{walked}
@@ -50,22 +52,42 @@ NotingStmts stmts decls below before [] after = before ≡ after
 NotingStmts stmts decls below before (x ∷ xs) after =
     (mid : NotedNames) × NotingStmt stmts decls below before x.1 mid × NotingStmts stmts decls below mid xs after
 
--- a walk along a row notes the names of the row
-pub vars_walked : (es : List ExprRecord) (stmts : List StmtRecord) (decls : List DeclRecord) (below i n : ℕ) (r : Row) (before after : NotedNames)
-    → Short (tables es stmts decls) → At (tables es stmts decls) (stmt_at i) r → statements_in r ≤ n → statements_in r ≤ suc below
-    → declarators_in r ≤ length decls → NotingStmts stmts decls below before (walked stmt_next stmts i n) after
-    → Noting before after (vars_of_row r)
-vars_walked es stmts decls below i n end before after s a c b d m =
-    subst (λ v. Noting before v []) (rw (walked_end stmts_tabled (tables es stmts decls) i n s a) at m) (λ l q. q)
-vars_walked es stmts decls below i zero (node l x y z w) before after s a c b d m = absurd (omega arith)
-vars_walked es stmts decls below i (suc n) (node l x y z w) before after s a c b d m =
+-- the first n items: none where the walk ends, and one before those that are left
+pub none_taken : {A : Type 0} (n : ℕ) (xs : List A) → (0 < n → xs ≡ []) → take n xs ≡ []
+none_taken zero xs e = refl
+none_taken (suc n) xs e = rw (e (omega arith)) refl
+
+pub one_taken : {A : Type 0} (n m : ℕ) (xs ys : List A) (x : A) → xs ≡ x ∷ ys → m + 1 ≡ n → take n xs ≡ x ∷ take m ys
+one_taken zero m xs ys x e f = absurd (omega arith)
+one_taken (suc n) m xs ys x e f = let g : n ≡ m = omega arith in rw e (rw g refl)
+
+-- a walk along a row, cut after as many records as the row has or more, notes the names of the row
+vars_met : (es : List ExprRecord) (stmts : List StmtRecord) (decls : List DeclRecord) (below i most n : ℕ) (r : Row) (before after : NotedNames)
+    → Short (tables es stmts decls) → At (tables es stmts decls) (stmt_at i) r → statements_in r ≤ most → row_length r ≤ n
+    → statements_in r ≤ suc below → declarators_in r ≤ length decls
+    → NotingStmts stmts decls below before (take most (walked stmt_next stmts i n)) after → Noting before after (vars_of_row r)
+vars_met es stmts decls below i most n end before after s a c f b d m =
+    let none = none_taken most _ (λ p. walked_end stmts_tabled (tables es stmts decls) i n s a) in
+    subst (λ v. Noting before v []) (rw none at m) (λ l q. q)
+vars_met es stmts decls below i zero n (node l x y z w) before after s a c f b d m = absurd (omega arith)
+vars_met es stmts decls below i (suc most) zero (node l x y z w) before after s a c f b d m = absurd (omega arith)
+vars_met es stmts decls below i (suc most) (suc n) (node l x y z w) before after s a c f b d m =
     let k = (get_or stmts i blank_stmt).kind in
     let t = rw (walked_node stmts_tabled (tables es stmts decls) i n a.0) at m in
-    let f = t.1 es y z s a.3 a.4 (omega arith) (omega arith) (omega arith) in
-    let g = vars_walked es stmts decls below _ n w t.0 after s a.5 (omega arith) (omega arith) (omega arith) t.2 in
+    let f₁ = t.1 es y z s a.3 a.4 (omega arith) (omega arith) (omega arith) in
+    let g = vars_met es stmts decls below _ most n w t.0 after s a.5 (omega arith) (omega arith) (omega arith) (omega arith) t.2 in
     subst (Noting before after)
     (append_assoc (vars_of_kind k z) (vars_of_row y) (vars_of_row w) ∙ ap (λ (j : Label). vars_of_label j z ++ (vars_of_row y ++ vars_of_row w)) a.1)
-    (noting_both before t.0 after (vars_of_kind k z ++ vars_of_row y) (vars_of_row w) f g)
+    (noting_both before t.0 after (vars_of_kind k z ++ vars_of_row y) (vars_of_row w) f₁ g)
+
+-- no row is longer than the table
+pub vars_walked : (es : List ExprRecord) (stmts : List StmtRecord) (decls : List DeclRecord) (below i most : ℕ) (r : Row) (before after : NotedNames)
+    → Short (tables es stmts decls) → At (tables es stmts decls) (stmt_at i) r → statements_in r ≤ most → statements_in r ≤ suc below
+    → declarators_in r ≤ length decls → NotingStmts stmts decls below before (take most (walked stmt_next stmts i (length stmts))) after
+    → Noting before after (vars_of_row r)
+vars_walked es stmts decls below i most r before after s a c b d m =
+    vars_met es stmts decls below i most (length stmts) r before after s a c
+    (linked_fits stmt_next stmts s.stmts i (row_length r) (stmt_chain (tables es stmts decls) i r a)) b d m
 
 -- a row of no statements tells no names
 pub no_vars : (r : Row) → statements_in r ≤ 0 → vars_of_row r ≡ []

@@ -60,8 +60,7 @@ fn note_declaration(decls: &[DeclRecord], kind: StatementKind, row: u32, noted: 
     }
 }
 
-// Notes the names that a row of statements or cases declares by `var`, at any depth. `most` is at least the number of its records,
-// and no more than the table has.
+// Notes the names that a row of statements or cases declares by `var`, at any depth. `most` is at least the number of its records.
 fn note_vars(
     most: usize,
     stmts: &[StmtRecord],
@@ -69,7 +68,6 @@ fn note_vars(
     row: u32,
     noted: &mut NotedNames,
 )
-    requires { most ≤ length stmts.now }
     ensures { (es : List ExprEntry) (r : Row) → Short (tables es stmts.now decls.now) →
         At (tables es stmts.now decls.now) (stmt_at row) r → statements_in r ≤ most → declarators_in r ≤ length decls.now →
         Noting noted.old noted.new (vars_of_row r) }
@@ -77,7 +75,7 @@ fn note_vars(
     let Some(below) = most.checked_sub(1) else {
         return;
     };
-    for (_, stmt) in along(stmts, row) {
+    for (_, stmt) in along(stmts, row).take(most) {
         note_declaration(decls, stmt.kind, stmt.decls, noted);
         note_vars(below, stmts, decls, stmt.stmts, noted);
     }

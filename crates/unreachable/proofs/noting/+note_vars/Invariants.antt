@@ -1,4 +1,4 @@
-use Rattle.std.proofs.Common.{length}
+use Rattle.std.proofs.Common.{take, length}
 use Rattle.records.specs.Turning.{stmt_next}
 use Rattle.records.specs.Walked.{ahead, walked}
 use Rattle.unreachable.specs.declared.noting.NotedNames.{NotedNames}
@@ -11,5 +11,5 @@ decreases-note_vars l = l.most
 -- noting those that are left notes all
 abbrev pub invariant-loop-stmt : goal.invariant-loop-stmt
 invariant-loop-stmt l =
-    (after : NotedNames) → NotingStmts l.stmts l.decls l.below l.noted (ahead stmt_next l.stmt-iterator) after
-    → NotingStmts l.stmts l.decls l.below l.fn.noted (walked stmt_next l.stmts l.row (length l.stmts)) after
+    (after : NotedNames) → NotingStmts l.stmts l.decls l.below l.noted (take l.stmt-iterator.n (ahead stmt_next l.stmt-iterator.iter)) after
+    → NotingStmts l.stmts l.decls l.below l.fn.noted (take l.most (walked stmt_next l.stmts l.row (length l.stmts))) after
