@@ -108,7 +108,8 @@ fn breaks(stmts: &[StmtRecord], at: u32, depth: usize) -> bool
     let stmt = record_at(stmts, at);
     match stmt.kind {
         StatementKind::Break => true,
-        StatementKind::If | StatementKind::Block => any_breaks(stmts, stmt.stmts, left),
+        StatementKind::If => any_breaks(stmts, stmt.stmts, left),
+        StatementKind::Block => any_breaks(stmts, stmt.stmts, left),
         _ => false,
     }
 }

@@ -1,6 +1,5 @@
 use mathlib.Core.Path.{refl, sym, ◌∙◌}
 use mathlib.Core.Bool.{false}
-use mathlib.Core.Logic.{⊎_elim}
 use Rattle.records.specs.Readable.{tables}
 use Rattle.rules.specs.Switches.{has_nested_break, has_nested_break_in_list}
 use Rattle.moves.proofs.Told.{told_stmt_kind}
@@ -21,11 +20,13 @@ breaks-returns-in-Break t c es ds x w s a n l =
 
 pub breaks-returns-in-If : goal.breaks-returns-in-If
 breaks-returns-in-If t c =
-    ⊎_elim
-    (λ k. if_breaks c.args.stmts.now c.args.at c.args.depth c.in-Some.left c.record_at-stmt.result c.record_at-stmt.ensures c.in-Some.ensures k
-    c.any_breaks.ensures)
-    (λ k. block_breaks c.args.stmts.now c.args.at c.args.depth c.in-Some.left c.record_at-stmt.result c.record_at-stmt.ensures c.in-Some.ensures k
-    c.any_breaks.ensures) c.in-If.is
+    if_breaks c.args.stmts.now c.args.at c.args.depth c.in-Some.left c.record_at-stmt.result c.record_at-stmt.ensures c.in-Some.ensures
+    c.in-If.is c.any_breaks.ensures
+
+pub breaks-returns-in-Block : goal.breaks-returns-in-Block
+breaks-returns-in-Block t c =
+    block_breaks c.args.stmts.now c.args.at c.args.depth c.in-Some.left c.record_at-stmt.result c.record_at-stmt.ensures c.in-Some.ensures
+    c.in-Block.is c.any_breaks-in-Block.ensures
 
 pub breaks-returns-in_default-kind : goal.breaks-returns-in_default-kind
 breaks-returns-in_default-kind t c es ds x w s a n l =
