@@ -12,7 +12,7 @@ ghost use Rattle.rules.specs.Statements.{any_cares_about_scope, handle_block, pu
 ghost use Rattle.moves.specs.Moved.{Turns};
 ghost use Rattle.moves.specs.Read.{TellsStmts};
 
-use moves::{give, push_all, set};
+use moves::{give, set};
 use pool::NOWHERE;
 use predicates::any_cares_about_scope;
 use records::{Pools, StmtRecord};
@@ -24,6 +24,15 @@ use script::StatementKind;
 pub struct Opened {
     pub results: u32,
     pub opened: bool,
+}
+
+// Puts the statements of a row one after the other onto the results.
+pub fn push_all(stmts: &mut [StmtRecord], list: u32, results: u32) -> u32
+    ensures { (es : List ExprEntry) (ds : List DeclEntry) (p : Spare) (xs ys : Stmts) →
+        Turns (tables es stmts.old ds) p (tables es stmts.new ds) p
+        [] ((stmt_at list, stmts_row xs) ∷ (stmt_at results, stmts_row ys) ∷ []) ((stmt_at result, stmts_row (push_all xs ys)) ∷ []) }
+{
+    moves::push_all(stmts, list, results)
 }
 
 // Opens a block into the results; one that declares names of its own stays as it is.

@@ -21,8 +21,8 @@ ghost use Rattle.moves.specs.Moved.{Turns};
 ghost use Rattle.heading.specs.Fronts.{TurnsToHead, head_with, is_expression_kind, is_var_kind, joined_init, rows_of, worked_head};
 
 use joining::join_sequence;
-use merging::merge_leading_assignments_to_declaration;
-use moves::{Tables, detach, give, join_rows, link, record_at, relink, set};
+use merging::{append_names, merge_leading_assignments_to_declaration};
+use moves::{Tables, detach, give, link, record_at, relink, set};
 use pool::NOWHERE;
 use records::{DeclRecord, ExprRecord, Pools, StmtRecord};
 use script::{DeclarationKind, ForHead, ForInit, StatementKind};
@@ -216,7 +216,7 @@ fn join_vars(
 {
     let own = record_at(stmts, inner);
     let last = record_at(stmts, results);
-    let names = join_rows(decls, last.decls, own.decls);
+    let names = append_names(decls, last.decls, own.decls);
     set(
         stmts,
         inner,

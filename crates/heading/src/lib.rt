@@ -5,6 +5,6 @@ mod blocks;
 mod heads;
 mod switches;
 
-pub use blocks::{Opened, handle_block};
+pub use blocks::{Opened, handle_block, push_all};
 pub use heads::{Front, handle_for_statement};
 pub use switches::handle_switch_statement;

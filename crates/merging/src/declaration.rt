@@ -14,7 +14,8 @@ ghost use Rattle.joining.specs.Needs.{EnoughFor};
 ghost use Rattle.merging.specs.Declaring.{first_worked, joins};
 
 use crate::leading::merge_leading_assignments_to_declaration;
-use moves::{Tables, give, join_rows, record_at, set};
+use crate::names::append_names;
+use moves::{Tables, give, record_at, set};
 use pool::NOWHERE;
 use records::{DeclRecord, ExprRecord, Pools, StmtRecord};
 use script::{DeclarationKind, StatementKind};
@@ -86,7 +87,7 @@ fn join_declarations(
 {
     let newest = record_at(stmts, results);
     if may_join(join_vars, newest.kind, kind) {
-        let row = join_rows(decls, newest.decls, names);
+        let row = append_names(decls, newest.decls, names);
         set(
             stmts,
             results,

@@ -1,7 +1,5 @@
-use Rattle.std.proofs.Common.{not as negated, refl, sym, ap, ◌∙◌}
+use Rattle.std.proofs.Common.{not as negated, sym, ap, ◌∙◌}
 use Rattle.moves.proofs.Single.{give_stmt_of}
-use Rattle.moves.proofs.Trees.{pushed_stmts}
-use Rattle.rules.specs.Statements.{push_all}
 use Rattle.heading.proofs.Pushing.{block_opens, block_stays, list_fits}
 use Rattle.heading.proofs.blocks.handle_block.Goals as goal
 
@@ -18,8 +16,7 @@ returns c = record {
   turns = λ es ds xs ys loose rest o.
       block_opens xs ys (sym (c.any_cares_about_scope.ensures es ds xs o.short o.held.0 (list_fits xs o)) ∙ c.if-any_cares_about_scope.false)
       (give_stmt_of c.args.at c.give.new.table c.give.new.pool c.give.ensures o)
-      (λ o₁. pushed_stmts c.give.new.table c.push_all.new.table c.args.list push_all (λ zs. refl) (λ x zs vs. refl) c.args.results c.push_all.result
-      c.push_all.ensures es ds (record { exprs = c.args.pools.now.exprs; stmts = c.give.new.pool; decls = c.args.pools.now.decls })
+      (λ o₁. c.push_all.ensures es ds (record { exprs = c.args.pools.now.exprs; stmts = c.give.new.pool; decls = c.args.pools.now.decls })
       xs ys loose rest o₁);
   tells = λ es ds xs s a f. ap negated (sym c.if-any_cares_about_scope.false ∙ c.any_cares_about_scope.ensures es ds xs s a f);
 }

@@ -6,7 +6,6 @@ use Rattle.script.specs.Tree.{declaration}
 use Rattle.rules.specs.Declarations.{append_declarators}
 use Rattle.moves.proofs.Open.{kind_of_stmt}
 use Rattle.moves.proofs.Single.{give_stmt_of}
-use Rattle.merging.proofs.NamesBehind.{joined_names}
 use Rattle.heading.proofs.Fronting.{var_closed, vars_opened}
 use Rattle.heading.proofs.heads.join_vars.Goals as goal
 use Rattle.moves.proofs.Frames.{then_use}
@@ -17,8 +16,7 @@ returns c es k xs ys y z loose rest o =
     let last = c.record_at-last.result in
     then_use
     (then_use
-    (joined_names c.args.decls.now c.join_rows-names.new.table last.decls own.decls c.join_rows-names.result c.join_rows-names.ensures es c.args.stmts.now
-    c.args.pools.now xs ys (stmt_at c.args.inner ∷ stmt_at c.args.results ∷ loose)
+    (c.append_names-names.ensures es c.args.stmts.now c.args.pools.now xs ys (stmt_at c.args.inner ∷ stmt_at c.args.results ∷ loose)
     ((expr_at own.exprs, end) ∷ (stmt_at own.stmts, end) ∷ (stmt_at own.next, y) ∷ (stmt_at last.next, z) ∷ rest)
     (vars_opened k xs ys y z own last c.record_at-own.ensures c.record_at-last.ensures o))
     (λ o₁. var_closed k (append_declarators xs ys) y own
