@@ -7,7 +7,7 @@ use Rattle.records.specs.declared.record.Pools.{Pools}
 use Rattle.records.specs.Heap.{Heap, Place, expr_at, stmt_at, decl_at, cell, Within, Nowhere, same}
 use Rattle.records.specs.Rows.{Row, end, node, At, uses, size, row_length}
 use Rattle.records.specs.Owned.{Root, Short, Owns}
-use Rattle.records.specs.Readable.{records, is_within, reach, Readable}
+use Rattle.records.specs.Readable.{records, is_within, reach, reached, Readable}
 
 -- the sum of g below n
 abbrev pub total : ℕ → (ℕ → ℕ) → ℕ
@@ -117,6 +117,9 @@ module _ {h : Heap} {p : Pools} {loose : List Place} {k : Place} {r : Row} {rest
       let e = total_uses h k r o.held.0 in
       let b = totals_le h (λ q. uses q h k r) (λ q v. let n = o.once q v in omega arith) in
       omega arith
+
+  pub owned_reach : Owns h p loose ((k, r) ∷ rest) → reached h k ≡ size r
+  owned_reach o = reach_is h k r (records h) o.short o.held.0 (owned_size o)
 
   pub owned_readable : Owns h p loose ((k, r) ∷ rest) → Readable h k
   owned_readable o = (r, o.held.0, owned_size o, o.short)

@@ -7,21 +7,26 @@ use Rattle.script.specs.Tree.{Exprs, no_exprs, expr_then, OptionalExpr, absent, 
 use Rattle.script.specs.Tree.{Init, no_init, init_expression, init_declaration, Alternate, no_alternate, alternate}
 use Rattle.script.specs.Tree.{Stmt, empty, expression, declaration, return_of, throw, if_then, block, while, do_while, for, switch, break, continue}
 use Rattle.script.specs.Tree.{Stmts, no_stmts, stmt_then, Cases, no_cases, case_then}
-use Rattle.script.specs.Judge.{Spares}
-use Rattle.script.specs.Sound.{none_used, plus, exprs_only, records_expr, records_exprs, records_optional, records_declarators}
+use Rattle.script.specs.Stacks.{Item, statement, case, Declarator, declarator, Stacks}
+use Rattle.script.specs.Judge.{Stage as ModelStage, reading, complete, Spares, Model}
+use Rattle.script.specs.Sound.{none_used, plus, with_stmt, exprs_only, records_expr, records_exprs, records_optional, records_declarators}
 use Rattle.script.specs.Sound.{records_init, records_stmt, records_alternate, records_stmts, records_cases}
 use Rattle.records.specs.declared.record.ExprRecord.{ExprRecord}
 use Rattle.records.specs.declared.record.StmtRecord.{StmtRecord}
 use Rattle.records.specs.declared.record.DeclRecord.{DeclRecord}
 use Rattle.records.specs.declared.record.Pools.{Pools}
+use Rattle.records.specs.declared.record.Stage.{Stage}
+use Rattle.records.specs.declared.record.Stage.TheVariants.{Reading, Complete}
+use Rattle.records.specs.declared.record.Draft.{Draft}
 use Rattle.records.specs.declared.record.Whole.{Whole}
 use Rattle.records.specs.Heap.{Heap, Place, expr_at, stmt_at, decl_at, Label, expr_label, stmt_label, decl_label, cell, Within, same}
 use Rattle.records.specs.Heap.{expr_links, stmt_links, decl_links, spare}
 use Rattle.records.specs.Rows.{Row, end, node, At, uses}
 use Rattle.records.specs.Owned.{Root, Held, uses_all, Owns}
 use Rattle.records.specs.Embedding.{expr_row, exprs_row, optional_row, declarators_row, init_exprs, init_stmts, stmt_row, alternate_row, stmts_row, cases_row}
+use Rattle.records.specs.Embedding.{item_row, declarator_row, expr_stack, stmt_stack, decl_stack}
 pub use Rattle.records.specs.TableOf.{of_label}
-use Rattle.records.specs.Holds.{counted, HoldsWhole}
+use Rattle.records.specs.Holds.{SameStage, body_root, roots, counted, Holds, HoldsWhole}
 use Rattle.records.proofs.Sizes.{total, total_add, total_none, total_same}
 
 -- numbers that are the same in each table
@@ -214,3 +219,60 @@ whole_lengths h w body o =
     let r = records_stmts_row body in
     owned_lengths h w.pools ((stmt_at w.body, stmts_row body) ∷ []) o.owned
     ∙ both (equal (omega arith)) refl
+
+-- the records of a model: of its stacks' items and of its body
+abbrev pub records_item : Item → Spares
+records_item (statement s) = records_stmt s
+records_item (case t ss) = with_stmt (plus (exprs_only (records_optional t)) (records_stmts ss))
+
+abbrev pub records_declarator : Declarator → Spares
+records_declarator (declarator n v) = record { exprs = records_optional v; stmts = 0; decls = 1 }
+
+abbrev pub records_all : {A : Type 0} → (A → Spares) → List A → Spares
+records_all f [] = none_used
+records_all f (x ∷ xs) = plus (f x) (records_all f xs)
+
+abbrev pub records_stacks : Stacks → Spares
+records_stacks s =
+    plus (records_all (λ e. exprs_only (records_expr e)) s.exprs) (plus (records_all records_item s.stmts) (records_all records_declarator s.decls))
+
+abbrev pub records_stage : ModelStage → Spares
+records_stage (reading a) = none_used
+records_stage (complete ss) = records_stmts ss
+
+abbrev pub records_model : Model → Spares
+records_model m = plus (records_stacks m.stacks) (records_stage m.stage)
+
+records_expr_stack : (es : List Expr) → Equals (records_row (expr_stack es)) (records_all (λ e. exprs_only (records_expr e)) es)
+records_expr_stack [] = omega arith
+records_expr_stack (e ∷ es) = let r₁ = records_expr_row e (expr_stack es) in let r₂ = records_expr_stack es in omega arith
+
+records_item_row : (i : Item) (w : Row) → Equals (records_row (item_row i w)) (plus (records_item i) (records_row w))
+records_item_row (statement s) w = records_stmt_row s w
+records_item_row (case t ss) w = let r₁ = records_optional_row t end in let r₂ = records_stmts_row ss in omega arith
+
+records_stmt_stack : (is : List Item) → Equals (records_row (stmt_stack is)) (records_all records_item is)
+records_stmt_stack [] = omega arith
+records_stmt_stack (i ∷ is) = let r₁ = records_item_row i (stmt_stack is) in let r₂ = records_stmt_stack is in omega arith
+
+records_declarator_row : (d : Declarator) (w : Row) → Equals (records_row (declarator_row d w)) (plus (records_declarator d) (records_row w))
+records_declarator_row (declarator n v) w = let r = records_optional_row v end in omega arith
+
+records_decl_stack : (ds : List Declarator) → Equals (records_row (decl_stack ds)) (records_all records_declarator ds)
+records_decl_stack [] = omega arith
+records_decl_stack (d ∷ ds) = let r₁ = records_declarator_row d (decl_stack ds) in let r₂ = records_decl_stack ds in omega arith
+
+records_body_root : (s : Stage) (t : ModelStage) → SameStage s t → Equals (records_roots (body_root s t)) (records_stage t)
+records_body_root (Reading a) (reading b) e = omega arith
+records_body_root (Reading a) (complete ss) e = absurd e
+records_body_root (Complete at) (reading b) e = absurd e
+records_body_root (Complete at) (complete ss) e = let r = records_stmts_row ss in omega arith
+
+pub draft_lengths : (h : Heap) (d : Draft) (m : Model) → Holds h d m →
+    ◌≡◌ {A = Spares} (record { exprs = length h.exprs; stmts = length h.stmts; decls = length h.decls }) (plus (records_model m) (counted d.pools))
+draft_lengths h d m o =
+    let r₁ = records_expr_stack m.stacks.exprs in
+    let r₂ = records_stmt_stack m.stacks.stmts in
+    let r₃ = records_decl_stack m.stacks.decls in
+    let r₄ = records_body_root d.stage m.stage o.stage in
+    owned_lengths h d.pools (roots d m) o.owned ∙ both (equal (omega arith)) refl
