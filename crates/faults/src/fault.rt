@@ -1,6 +1,7 @@
 // Why a call is turned away: the reader's fault carries the sheet's, and that one the pool's.
 ghost use Rattle.std.specs.Prelude.{◌≡◌};
 ghost use Rattle.faults.specs.Faults.{sheet_number, read_number};
+ghost use Rattle.faults.specs.Words.{sheet_words, read_words};
 ghost use Rattle.faults.specs.declared.fault.ReadFault.TheVariants.{BadOperand, Sheet};
 ghost use Rattle.faults.specs.declared.fault.SheetFault.TheVariants.{Spares};
 
@@ -66,6 +67,8 @@ impl From<NotListed> for ReadFault {
 }
 
 impl fmt::Display for SheetFault {
+    ghost output = { sheet_words };
+
     fn fmt<W: fmt::Write>(&self, f: &mut fmt::Formatter<W>) -> fmt::Result {
         match self {
             SheetFault::Sizes => f.write_str(
@@ -80,6 +83,8 @@ impl fmt::Display for SheetFault {
 }
 
 impl fmt::Display for ReadFault {
+    ghost output = { read_words };
+
     fn fmt<W: fmt::Write>(&self, f: &mut fmt::Formatter<W>) -> fmt::Result {
         match self {
             ReadFault::Sheet(fault) => fault.fmt(f),

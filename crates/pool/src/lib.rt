@@ -5,6 +5,7 @@
 ghost use Rattle.std.specs.Prelude.{◌≡◌, ℕ, ◌+◌, ◌<◌, ◌≤◌, map, length, Ok, Err};
 ghost use Rattle.pool.specs.Chain.{Chain, places, modify, nowhere};
 ghost use Rattle.pool.specs.Answers.{taken, pool_after, given};
+ghost use Rattle.pool.specs.Words.{fault_words};
 ghost use Rattle.std.specs.List.{range_with_len};
 
 use std::fmt;
@@ -47,6 +48,8 @@ pub enum PoolFault<T> {
 }
 
 impl<T: fmt::Display> fmt::Display for PoolFault<T> {
+    ghost output = { fault_words T.output };
+
     fn fmt<W: fmt::Write>(&self, f: &mut fmt::Formatter<W>) -> fmt::Result {
         match self {
             PoolFault::Empty(table) => write!(f, "no {table} record is spare"),

@@ -7,3 +7,4 @@ pub mod Sound
 pub mod Written
 pub mod Laws
 pub mod Operand
+pub mod Words

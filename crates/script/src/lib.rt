@@ -2,6 +2,9 @@
 // What they mean together stands in specs/: trees, the reading of bytes, their judging and their writing.
 #![tactic(auto)]
 
+ghost use Rattle.std.specs.Prelude.{Some};
+ghost use Rattle.script.specs.Words.{table_word};
+
 mod laws;
 mod operand;
 
@@ -194,6 +197,8 @@ pub enum Table {
 }
 
 impl fmt::Display for Table {
+    ghost output = { λ t. Some (table_word t) };
+
     fn fmt<W: fmt::Write>(&self, f: &mut fmt::Formatter<W>) -> fmt::Result {
         f.write_str(match self {
             Table::Expressions => "expression",
