@@ -1,6 +1,6 @@
 -- Rows of one table: a record taken off its row, a row behind another, a row turned round, whichever table it is.
-use Rattle.std.proofs.Common.{◌≡◌, ℕ, suc, ◌+◌, ◌<◌, ◌≤◌, List, [], ◌∷◌, map, length, get_or, set, sym, refl, ap, ◌∙◌, subst, arith}
-use Rattle.pool.specs.Chain.{Chain, nowhere}
+use Rattle.std.proofs.Common.{◌≡◌, ℕ, zero, suc, ◌+◌, ◌<◌, ◌≤◌, List, [], ◌∷◌, map, length, get_or, set, sym, refl, ap, ◌∙◌, subst, arith}
+use Rattle.pool.specs.Chain.{Chain, modify, nowhere}
 use Rattle.records.specs.declared.record.Pools.{Pools}
 use Rattle.records.specs.Heap.{Heap, Label, Place, cell}
 use Rattle.records.specs.Owned.{Owns, Root}
@@ -14,6 +14,17 @@ use Rattle.moves.specs.Front.{in_front, links_on, turned_onto}
 use Rattle.moves.specs.Moved.{Moved, TurnsTable}
 use Rattle.moves.proofs.Frames.{arrange, inside, kept_off, regroup, stays, then_move}
 use Rattle.moves.proofs.Nowhere.{nothing_there}
+
+-- a record is changed where it is written anew; past the end nothing is
+changed_there : {X : Type 0} (f : X → X) (i : ℕ) (xs : List X) (d : X) → set xs i (f (get_or xs i d)) ≡ modify f i xs
+changed_there f i [] d = refl
+changed_there f zero (x ∷ xs) d = refl
+changed_there f (suc i) (x ∷ xs) d = ap (λ l. x ∷ l) (changed_there f i xs d)
+
+pub relinked_there : {R : Type 0} (blank : R) (relinked : R → ℕ → R) (xs xs' : List R) (i b : ℕ) (r r' : R) → r ≡ get_or xs i blank
+    → r' ≡ relinked r b → xs' ≡ set xs i r' → xs' ≡ modify (λ x. relinked x b) i xs
+relinked_there blank relinked xs xs' i b r r' read is_relinked is_set =
+    rw (is_set, is_relinked, read) (changed_there (λ x. relinked x b) i xs blank)
 
 -- some records of a row are in front of another already, i of them, and the others follow
 pub record Pushing {R : Type 0} (t : TableOf R) (xs : List R) (row onto : ℕ) (xs' : List R) (from pushed i : ℕ) : Type 0 where

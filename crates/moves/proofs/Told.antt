@@ -4,7 +4,7 @@ use Rattle.script.specs.Tree.{Expr, Stmt}
 use Rattle.records.specs.declared.record.ExprRecord.{ExprRecord}
 use Rattle.records.specs.declared.record.StmtRecord.{StmtRecord}
 use Rattle.records.specs.Embedding.{expr_row, stmt_row}
-use Rattle.records.specs.Heap.{Heap, Label, blank_expr, blank_stmt, expr_at, expr_label, stmt_at, stmt_label}
+use Rattle.records.specs.Heap.{Heap, Label, blank_expr, blank_stmt, decl_at, expr_at, expr_label, stmt_at, stmt_label}
 use Rattle.records.specs.Rows.{At, Row, end, node}
 use Rattle.moves.specs.First.{expr_kind, expr_parts, stmt_decls, stmt_exprs, stmt_kind, stmt_stmts}
 use Rattle.moves.proofs.First.{expr_first, stmt_first}
@@ -41,6 +41,9 @@ module _ (h : Heap) (i : ℕ) (x : Stmt) (w : Row) {r : StmtRecord} (told : r �
 
   pub told_stmt_stmts : At h (stmt_at r.stmts) (stmt_stmts x)
   told_stmt_stmts = subst (λ (v : StmtRecord). At h (stmt_at v.stmts) (stmt_stmts x)) (sym told) there_stmt.3
+
+  pub told_stmt_decls : At h (decl_at r.decls) (stmt_decls x)
+  told_stmt_decls = subst (λ (v : StmtRecord). At h (decl_at v.decls) (stmt_decls x)) (sym told) there_stmt.4
 
   pub told_stmt_next : At h (stmt_at r.next) w
   told_stmt_next = subst (λ (v : StmtRecord). At h (stmt_at v.next) w) (sym told) there_stmt.5

@@ -1,6 +1,6 @@
 // Rows of one table: a record put in front of another row, a row put behind another, a row turned round.
 ghost use Rattle.std.specs.Prelude.{◌≡◌, ℕ, suc, ◌<◌, ◌≤◌, [], ◌∷◌, map, length};
-ghost use Rattle.pool.specs.Chain.{Chain, nowhere};
+ghost use Rattle.pool.specs.Chain.{Chain, modify, nowhere};
 ghost use Rattle.records.specs.Heap.{Label};
 ghost use Rattle.records.specs.Rows.{Row, end, node};
 ghost use Rattle.moves.specs.Front.{in_front, links_on, turned_onto};
@@ -14,7 +14,8 @@ use records::along;
 
 // Takes the first record off its row and puts it in front of another; the answer is what was behind it.
 pub fn relink<R: Record>(table: &mut [R], at: u32, row: u32) -> u32
-    ensures { (l : Label) (x y z w v : Row) → TurnsTable R.table_of table.old table.new
+    ensures place { table.new ≡ modify (λ x. R.relinked x row) at table.old }
+    ensures turns { (l : Label) (x y z w v : Row) → TurnsTable R.table_of table.old table.new
         ((R.table_of.place at, node l x y z w) ∷ (R.table_of.place row, v) ∷ [])
         ((R.table_of.place result, w) ∷ (R.table_of.place at, node l x y z v) ∷ []) }
 {
@@ -27,7 +28,8 @@ pub fn relink<R: Record>(table: &mut [R], at: u32, row: u32) -> u32
 
 // Puts a record with nothing behind it in front of a row.
 pub fn link<R: Record>(table: &mut [R], at: u32, row: u32)
-    ensures { (l : Label) (x y z w : Row) → TurnsTable R.table_of table.old table.new
+    ensures place { table.new ≡ modify (λ x. R.relinked x row) at table.old }
+    ensures turns { (l : Label) (x y z w : Row) → TurnsTable R.table_of table.old table.new
         ((R.table_of.place at, node l x y z end) ∷ (R.table_of.place row, w) ∷ []) ((R.table_of.place at, node l x y z w) ∷ []) }
 {
     relink(table, at, row);
@@ -74,7 +76,10 @@ pub fn last_of_row<R: Record>(table: &[R], row: u32) -> u32
 
 // Puts a row behind another that is not empty.
 pub fn append<R: Record>(table: &mut [R], row: u32, more: u32)
-    ensures { (l : Label) (x y z v w : Row) → TurnsTable R.table_of table.old table.new
+    ensures chain { (n : ℕ) → n < length table.old → length table.old ≤ nowhere →
+        Chain (map R.link table.old) row (suc n) →
+        table.new ≡ modify (λ x. R.relinked x more) (links_on (map R.link table.old) row n) table.old }
+    ensures row { (l : Label) (x y z v w : Row) → TurnsTable R.table_of table.old table.new
         ((R.table_of.place row, node l x y z v) ∷ (R.table_of.place more, w) ∷ []) ((R.table_of.place row, node l x y z (in_front v w)) ∷ []) }
 {
     let last = last_of_row(table, row);

@@ -8,4 +8,4 @@ returns-then-expr-eq-NOWHERE c ss ds p v w y r loose rest o = none_put v w y r c
 pub returns : goal.returns
 returns c ss ds p v w y r loose rest o =
     some_put v w y r c.if-expr-eq-NOWHERE.false
-    (λ e. linked_expr c.args.exprs.now c.link.new.table c.args.expr c.args.front.values c.link.ensures ss ds p e w) o
+    (λ e. linked_expr c.args.exprs.now c.link.new.table c.args.expr c.args.front.values c.link.ensures.turns ss ds p e w) o

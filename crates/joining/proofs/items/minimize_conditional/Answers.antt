@@ -14,7 +14,7 @@ pub returns : goal.returns
 returns c ss ds t x y w n loose rest o =
     then_move
     (regroup
-    (linked_expr _ _ _ _ c.link.ensures ss ds c.args.pools.now x (expr_row y end) loose ((expr_at c.args.test, expr_row t w) ∷ rest) (arrange (1 ∷ 1 ∷ []) o))
+    (linked_expr _ _ _ _ c.link.ensures.turns ss ds c.args.pools.now x (expr_row y end) loose ((expr_at c.args.test, expr_row t w) ∷ rest) (arrange (1 ∷ 1 ∷ []) o))
     (λ q. pick 1 q))
     (λ q. at_last ((expr_at c.args.a, expr_row x (expr_row y end)) ∷ []) (λ e. conditional e x y)
     (λ e v. c.wrap.ensures ss ds e v (expr_row x (expr_row y end)) n) t w

@@ -8,7 +8,7 @@ returns-then-has_operator c ss ds x y xs w n loose rest o =
     let r = c.record_at-expr.ensures in
     rw r
     (taken_apart c.args.operator x y xs w (rw r at (sym c.has_operator.ensures ∙ c.if-has_operator.true))
-    (λ e es v. appended_exprs _ _ _ _ (rw r at c.append.ensures) ss ds c.args.pools.now e es v) c.give.ensures o)
+    (λ e es v. appended_exprs _ _ _ _ (rw r at c.append.ensures.row) ss ds c.args.pools.now e es v) c.give.ensures o)
 
 pub returns : goal.returns
 returns c ss ds x y xs w n loose rest o =

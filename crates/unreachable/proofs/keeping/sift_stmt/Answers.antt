@@ -12,7 +12,7 @@ returns-then-statement_cares_about_scope-clause-makes c x w r loose rest o =
     sift_keeps x w r
     (sym (rw c.stmts.ensures at (c.statement_cares_about_scope.ensures t.exprs.now t.decls.now x w) o.short o.held.0 (stmt_fits x w o))
     ∙ c.if-statement_cares_about_scope.true)
-    (relinked_stmt t.stmts.now c.relink-rest.new.table c.args.at c.args.results c.relink-rest.result c.relink-rest.ensures t.exprs.now t.decls.now t.pools
+    (relinked_stmt t.stmts.now c.relink-rest.new.table c.args.at c.args.results c.relink-rest.result c.relink-rest.ensures.turns t.exprs.now t.decls.now t.pools
     x w (stmts_row r) loose rest o)
 
 pub returns-clause-makes : goal.returns-clause-makes
