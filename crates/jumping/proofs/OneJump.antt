@@ -242,7 +242,7 @@ module _ (j : Jump) {h : Heap} {p : Pools} {loose : List Place} {rest : List Roo
         })
 
     -- the jump takes it in
-    pub goes_on : (a : Argument j) (r : Stmts) → IfAround (kind_of j) r → (value ≡ nowhere → (inside h results).exprs ≡ nowhere → ⊥)
+    goes_on_there : (a : Argument j) (r : Stmts) → IfAround (kind_of j) r → (value ≡ nowhere → (inside h results).exprs ≡ nowhere → ⊥)
         → true ≡ may_merge_return (held_by j) ((rule j).argument a) → lengths h ≡ lengths h'
         → ((t : Expr) (v u : OptionalExpr) → 5 ≤ p.exprs.count
         → Turns h p h' p' (stmt_at (there h results).stmts ∷ stmt_at results ∷ [])
@@ -251,7 +251,7 @@ module _ (j : Jump) {h : Heap} {p : Pools} {loose : List Place} {rest : List Roo
         → EnoughFor ((rule j).stmt a) r p → Owns h p loose (in_hand (rule j) value results a r rest)
         → GoesOn (rule j) h h' p' loose rest (record { target = (there h results).exprs; results = (there h results).next })
         ((rule j).loop r a) (records_stmts r).stmts
-    goes_on a r f n m same joins =
+    goes_on_there a r f n m same joins =
         by_found j (λ (x : Stmts). EnoughFor ((rule j).stmt a) x p → Owns h p loose (in_hand (rule j) value results a x rest)
         → GoesOn (rule j) h h' p' loose rest (record { target = (there h results).exprs; results = (there h results).next })
         ((rule j).loop x a) (records_stmts x).stmts) r f
@@ -287,6 +287,18 @@ module _ (j : Jump) {h : Heap} {p : Pools} {loose : List Place} {rest : List Roo
           fewer = omega arith;
           enough = record { exprs = omega arith; stmts = omega arith; decls = omega arith };
         })
+
+    -- the same, whichever way the code comes to the place of the earlier argument and to that of the results below
+    pub goes_on : {earlier below : ℕ} (a : Argument j) (r : Stmts) → IfAround (kind_of j) r → (value ≡ nowhere → (inside h results).exprs ≡ nowhere → ⊥)
+        → true ≡ may_merge_return (held_by j) ((rule j).argument a) → lengths h ≡ lengths h'
+        → ((t : Expr) (v u : OptionalExpr) → 5 ≤ p.exprs.count
+        → Turns h p h' p' (stmt_at (there h results).stmts ∷ stmt_at results ∷ [])
+        ((expr_at (there h results).exprs, expr_row t end) ∷ (expr_at earlier, optional_row v end) ∷ (expr_at value, optional_row u end) ∷ [])
+        ((expr_at (there h results).exprs, expr_row (minimize_conditional t (value_or_void_0 v) (value_or_void_0 u)) end) ∷ []))
+        → earlier ≡ (inside h results).exprs → below ≡ (there h results).next
+        → EnoughFor ((rule j).stmt a) r p → Owns h p loose (in_hand (rule j) value results a r rest)
+        → GoesOn (rule j) h h' p' loose rest (record { target = (there h results).exprs; results = below }) ((rule j).loop r a) (records_stmts r).stmts
+    goes_on a r f n m same joins e b g o = rw b (goes_on_there a r f n m same (λ t v u k. rw (← e) (joins t v u k)) g o)
 
 pub not_both : {m n : ℕ} → ((m ≡ nowhere) × (n ≡ nowhere → ⊥)) ⊎ (m ≡ nowhere → ⊥) → m ≡ nowhere → n ≡ nowhere → ⊥
 not_both (inl x) m n = x.1 n

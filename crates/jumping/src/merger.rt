@@ -76,6 +76,10 @@ fn merge_jump(
     if !jump.may_merge(exprs, value) {
         return ControlFlow::Break(stays);
     }
+    let taken_in = Worked {
+        target: last.exprs,
+        results: last.next,
+    };
     join_values(
         exprs,
         stmts,
@@ -86,10 +90,7 @@ fn merge_jump(
         inner.exprs,
         value,
     );
-    ControlFlow::Continue(Worked {
-        target: last.exprs,
-        results: last.next,
-    })
+    ControlFlow::Continue(taken_in)
 }
 
 // Takes in the newest results, one by one, and puts the jump in front of what is left.

@@ -1,4 +1,4 @@
-use Rattle.std.proofs.Common.{◌≡◌, sym}
+use Rattle.std.proofs.Common.{◌≡◌, sym, arith}
 use Rattle.records.specs.Readable.{tables}
 use Rattle.records.proofs.Tallies.{lengths}
 use Rattle.jumping.proofs.OneJump.{ends_bare, ends_other, ends_stop, goes_on, not_both, told_around, told_may}
@@ -28,5 +28,5 @@ returns c ds a r g loose rest o =
     rw c.record_at-last.ensures
     (goes_on c.args.jump a r (told_around c.args.jump a r c.if-not-is_if_jump.false c.is_if_jump.ensures o)
     (rw (← c.record_at-last.ensures, ← c.record_at-inner.ensures) (not_both c.else-value-eq-NOWHERE.either))
-    (told_may c.args.jump a r c.if-not-may_merge.false c.may_merge.ensures o) (sym same)
-    (λ e v u n. rw (← c.record_at-last.ensures, ← c.record_at-inner.ensures) (c.join_values.ensures ds e v u n)) g o)
+    (told_may c.args.jump a r c.if-not-may_merge.false c.may_merge.ensures o) (sym same) (rw c.record_at-last.ensures at (c.join_values.ensures ds))
+    (grind arith) (grind arith) g o)
